@@ -1,0 +1,44 @@
+-- Laws of choice by a test and by a key.
+use Prim.Native.Nat.{ℕ}
+use mathlib.Core.Path.{_≡_, refl, sym, ap}
+use mathlib.Core.Bool.{Bool, true, false}
+use mathlib.Core.List.{List, [], _∷_}
+use borrow.Author.Tests.{ne-eqb}
+use Rattle.numbers.specs.Choice.{pick, find}
+
+-- which of two a test picks
+pub picks-first : {A : Type 0} (t : Bool) (a b : A) → t ≡ true → pick t a b ≡ a
+picks-first t a b e = ap (λ (k : Bool). pick k a b) e
+
+pub picks-second : {A : Type 0} (t : Bool) (a b : A) → t ≡ false → pick t a b ≡ b
+picks-second t a b e = ap (λ (k : Bool). pick k a b) e
+
+-- one of two by a test, from what the test says
+pub by-test : {A : Type 0} (t : Bool) (r a b : A) → (t ≡ true → r ≡ a) → (t ≡ false → r ≡ b) → r ≡ pick t a b
+by-test true r a b f g = f refl
+by-test false r a b f g = g refl
+
+-- what holds of both values holds of the one that is picked
+pub either : {A : Type 0} (P : A → Type 0) (t : Bool) (a b : A) → P a → P b → P (pick t a b)
+either P true a b p q = p
+either P false a b p q = q
+
+-- two tests that follow from each other are one
+pub same-test : (a b : Bool) → (a ≡ true → b ≡ true) → (b ≡ true → a ≡ true) → a ≡ b
+same-test true b f g = sym (f refl)
+same-test false true f g = g refl
+same-test false false f g = refl
+
+-- what a match on k knows in its last arm: U, and that k is no row's key
+abbrev pub Misses : {A : Type 0} → Type 0 → List (ℕ × A) → ℕ → Type 0
+Misses U [] k = U
+Misses U (row ∷ rows) k = Misses (U × (k ≡ row .0 → ⊥)) rows k
+
+missed : {A : Type 0} (U : Type 0) (rows : List (ℕ × A)) (d : A) (k : ℕ) → Misses U rows k → U × (find rows d k ≡ d)
+missed U [] d k m = (m, refl)
+missed U (row ∷ rows) d k m =
+    let t = missed (U × (k ≡ row .0 → ⊥)) rows d k m in
+    (t .0 .0, rw (ne-eqb k (row .0) (t .0 .1)) (t .1))
+
+pub find-none : {A : Type 0} (rows : List (ℕ × A)) (d : A) (k : ℕ) → Misses (Unit {0}) rows k → find rows d k ≡ d
+find-none rows d k m = missed (Unit {0}) rows d k m .1

@@ -1,0 +1,104 @@
+-- 01: "Each word reads as one instruction whose second operand is a register or a signed 13-bit constant."
+use Prim.Native.Nat.{ℕ, zero, suc, _/_, _%_, _^_}
+use mathlib.Core.Bool.{Bool, true, false}
+use mathlib.Core.List.{List, [], _∷_}
+use lib.Dec.{eqb}
+use Rattle.numbers.specs.Choice.{pick, find}
+use Rattle.numbers.specs.Number.{signed}
+use Rattle.words.specs.declared.Operand.{Operand}
+use Rattle.words.specs.declared.Operand.the-variants.{Register, Constant}
+use Rattle.words.specs.declared.Operation.the-variants.{Add, And, Or, Xor, Sub, Andn, Orn, Xnor, Addx, Subx, Sll, Srl, Sra}
+use Rattle.words.specs.declared.Width.the-variants.{Byte, Half, Word}
+use Rattle.words.specs.declared.Instruction.{Instruction}
+use Rattle.words.specs.declared.Instruction.the-variants.{Illegal, Call, Sethi, Bicc, Arithmetic, Jmpl, Ticc, Load, Store}
+
+-- "the other fields are cut from it as V8 draws them": so many bits of a word, from the lowest of them
+unfoldable pub bits : ℕ → ℕ → ℕ → ℕ
+bits word low width = word / 2 ^ low % 2 ^ width
+
+unfoldable pub bitSet : ℕ → ℕ → Bool
+bitSet word n = eqb (bits word n 1) 1
+
+-- bit 13 tells a constant, simm13, from a register, rs2
+unfoldable pub operandOf : ℕ → Operand
+operandOf word = pick (bitSet word 13) (Constant (signed 13 (bits word 0 13))) (Register (bits word 0 5))
+
+-- format 0, by op2: branches and sethi
+abbrev pub rows0 : ℕ → List (ℕ × Instruction)
+rows0 word =
+    (2, Bicc (bits word 25 4) (bitSet word 29) (signed 22 (bits word 0 22))) ∷ (4, Sethi (bits word 25 5) (bits word 0 22)) ∷ []
+
+unfoldable pub format0Of : ℕ → Instruction
+format0Of word = find (rows0 word) Illegal (bits word 22 3)
+
+-- format 2, by op3: what the word reads as, from its fields cond, rd, rs1 and its second operand
+abbrev pub Format2 : Type 0
+Format2 = ℕ → ℕ → ℕ → Operand → Instruction
+
+abbrev pub none2 : Format2
+none2 cond rd rs1 x = Illegal
+
+abbrev pub rows2 : List (ℕ × Format2)
+rows2 =
+    (0, λ cond rd rs1 x. Arithmetic Add false rd rs1 x)
+    ∷ (1, λ cond rd rs1 x. Arithmetic And false rd rs1 x)
+    ∷ (2, λ cond rd rs1 x. Arithmetic Or false rd rs1 x)
+    ∷ (3, λ cond rd rs1 x. Arithmetic Xor false rd rs1 x)
+    ∷ (4, λ cond rd rs1 x. Arithmetic Sub false rd rs1 x)
+    ∷ (5, λ cond rd rs1 x. Arithmetic Andn false rd rs1 x)
+    ∷ (6, λ cond rd rs1 x. Arithmetic Orn false rd rs1 x)
+    ∷ (7, λ cond rd rs1 x. Arithmetic Xnor false rd rs1 x)
+    ∷ (8, λ cond rd rs1 x. Arithmetic Addx false rd rs1 x)
+    ∷ (12, λ cond rd rs1 x. Arithmetic Subx false rd rs1 x)
+    ∷ (16, λ cond rd rs1 x. Arithmetic Add true rd rs1 x)
+    ∷ (17, λ cond rd rs1 x. Arithmetic And true rd rs1 x)
+    ∷ (18, λ cond rd rs1 x. Arithmetic Or true rd rs1 x)
+    ∷ (19, λ cond rd rs1 x. Arithmetic Xor true rd rs1 x)
+    ∷ (20, λ cond rd rs1 x. Arithmetic Sub true rd rs1 x)
+    ∷ (21, λ cond rd rs1 x. Arithmetic Andn true rd rs1 x)
+    ∷ (22, λ cond rd rs1 x. Arithmetic Orn true rd rs1 x)
+    ∷ (23, λ cond rd rs1 x. Arithmetic Xnor true rd rs1 x)
+    ∷ (24, λ cond rd rs1 x. Arithmetic Addx true rd rs1 x)
+    ∷ (28, λ cond rd rs1 x. Arithmetic Subx true rd rs1 x)
+    ∷ (37, λ cond rd rs1 x. Arithmetic Sll false rd rs1 x)
+    ∷ (38, λ cond rd rs1 x. Arithmetic Srl false rd rs1 x)
+    ∷ (39, λ cond rd rs1 x. Arithmetic Sra false rd rs1 x)
+    ∷ (56, λ cond rd rs1 x. Jmpl rd rs1 x)
+    ∷ (58, λ cond rd rs1 x. Ticc cond rs1 x)
+    ∷ []
+
+unfoldable pub format2Of : ℕ → Format2
+format2Of op3 = find rows2 none2 op3
+
+-- format 3, by op3: loads and stores, from rd, rs1 and the second operand
+abbrev pub Format3 : Type 0
+Format3 = ℕ → ℕ → Operand → Instruction
+
+abbrev pub none3 : Format3
+none3 rd rs1 x = Illegal
+
+abbrev pub rows3 : List (ℕ × Format3)
+rows3 =
+    (0, λ rd rs1 x. Load Word false rd rs1 x)
+    ∷ (1, λ rd rs1 x. Load Byte false rd rs1 x)
+    ∷ (2, λ rd rs1 x. Load Half false rd rs1 x)
+    ∷ (4, λ rd rs1 x. Store Word rd rs1 x)
+    ∷ (5, λ rd rs1 x. Store Byte rd rs1 x)
+    ∷ (6, λ rd rs1 x. Store Half rd rs1 x)
+    ∷ (9, λ rd rs1 x. Load Byte true rd rs1 x)
+    ∷ (10, λ rd rs1 x. Load Half true rd rs1 x)
+    ∷ []
+
+unfoldable pub format3Of : ℕ → Format3
+format3Of op3 = find rows3 none3 op3
+
+-- "Bits 31 and 30 of a word choose its format"
+unfoldable pub byFormat : ℕ → ℕ → Instruction
+byFormat zero word = format0Of word
+byFormat (suc zero) word = Call (signed 30 (bits word 0 30))
+byFormat (suc (suc zero)) word = format2Of (bits word 19 6) (bits word 25 4) (bits word 25 5) (bits word 14 5) (operandOf word)
+byFormat (suc (suc (suc n))) word = format3Of (bits word 19 6) (bits word 25 5) (bits word 14 5) (operandOf word)
+
+-- "All others are illegal. Unused bits are ignored."
+unfoldable pub instructionOf : ℕ → Instruction
+instructionOf word = byFormat (bits word 30 2) word

@@ -1,0 +1,50 @@
+/* Pijorrel: the C interface. Link with target/libpijorrel.a.
+ *
+ * Numbers inside byte areas have four bytes, big-endian. Lent areas must not overlap. No call keeps a pointer,
+ * allocates, or fails to return. Every value of every argument is allowed; what each call answers and leaves in
+ * the areas lent to it is proved for all of them.
+ */
+#ifndef PIJORREL_H
+#define PIJORREL_H
+
+#include <stddef.h>
+#include <stdint.h>
+
+#ifdef __cplusplus
+extern "C" {
+#endif
+
+/* How a run stands, with the number that belongs to it:
+ *   0  still going; exactly the given count was done (0)
+ *   1  Ticc taken ((rs1 + operand) modulo 128)
+ *   2  outside the image (the address)
+ *   3  illegal word (the address)
+ *   4  misaligned (the address)
+ *   5  data access that does not fit (the address)
+ *   6  no place, new core only (the address)
+ *   7  bad record, new core only (the record number) */
+struct pijorrel_end {
+    uint32_t end;
+    uint32_t number;
+};
+
+/* The old core's state: 38 numbers.
+ *   0 to 31  registers (register 0 counts as 0)      34  nPC
+ *   32       flags, 8N + 4Z + 2V + C (low four bits)  35  annul (any number but 0 is set)
+ *   33       PC                                       36  end, 37 the number beside it
+ * An end outside 1 to 7 counts as still going. All bytes 0 are the start values. */
+#define PIJORREL_OLD_STATE 152
+
+/* Sets PC to the address, nPC 4 further, annul clear, not ended; keeps registers and flags. */
+void pijorrel_old_begin(uint32_t address, uint8_t state[PIJORREL_OLD_STATE]);
+
+/* Passes count words, or fewer where the run ends. Of the data the first 65,536 bytes exist. */
+struct pijorrel_end pijorrel_old_run(const uint8_t *image, size_t image_length, uint32_t base,
+                                     uint32_t data_base, uint8_t state[PIJORREL_OLD_STATE],
+                                     uint8_t *data, size_t data_length, uint16_t count);
+
+#ifdef __cplusplus
+}
+#endif
+
+#endif
