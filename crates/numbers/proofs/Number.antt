@@ -1,15 +1,17 @@
 -- Laws of numbers modulo 2^32, of signs, and of numbers in lists of bytes.
 use Prim.Native.Nat.{ℕ, zero, suc, _+_, _*_, _/_, _%_, _-_, _^_, _≤_, _<_}
-use mathlib.Core.Path.{_≡_, refl, ap, _∙_}
+use mathlib.Core.Path.{_≡_, refl, ap, _∙_, sym}
 use mathlib.Core.List.{List, [], _∷_, _++_, append-nil}
 use native.Mathlib.Omega.{arith}
-use native.Mathlib.Nat.{sub-zero, mod-eq-of-lt, mod-eq-sub-mod}
+use native.Mathlib.Nat.{add-zero, sub-zero, mod-eq-of-lt, mod-eq-sub-mod}
+use native.Mathlib.Numerals.{add-one}
+use lib.Seq.{paste, paste-suc, drop-nil, drop-cons, take-suc-set}
 use lib.Dec.{ltb}
-use lib.ListN.{length, set, take, drop, replicate, length-set, drop-of-length-le}
+use lib.ListN.{length, set, take, drop, replicate, length-set, drop-of-length-le, getD}
 use borrow.Author.Fill.{fill-more}
 use borrow.Author.Tests.{ltb-true, ltb-false}
 use Rattle.numbers.specs.Choice.{pick}
-use Rattle.numbers.specs.Number.{minus, putNumber, zeroFrom}
+use Rattle.numbers.specs.Number.{minus, putNumber, zeroFrom, numberAt, numbersOf, bytesOf}
 use Rattle.numbers.proofs.Choice.{by-test}
 
 -- the lowest byte of a sum, and the rest
@@ -65,3 +67,76 @@ extend-by-sum h v b l =
     let e : (v + h) % (h + h) ≡ v - h = mod-eq-sub-mod (omega arith) ∙ mod-eq-of-lt (omega arith) ∙ omega arith in
     let f : (v - h + 2 ^ 32 - h) % 2 ^ 32 ≡ v - h + 2 ^ 32 - h = mod-eq-of-lt (omega arith) in
     rw (e, f) (omega arith))
+
+-- the bytes of a list of numbers, and one of them
+pub length-bytes : (vs : List ℕ) → length (bytesOf vs) ≡ 4 * length vs
+unfolding bytesOf
+length-bytes [] = refl
+length-bytes (v ∷ vs) = rw (length-bytes vs) (omega arith)
+
+bytes-from : (vs : List ℕ) (i k : ℕ) → getD (bytesOf vs) (4 * i + k) 0 ≡ getD (bytesOf (drop i vs)) k 0
+unfolding bytesOf
+bytes-from [] i k = rw (drop-nil i)
+bytes-from (v ∷ vs) zero k = let e : 4 * 0 + k ≡ k = omega arith in rw e
+bytes-from (v ∷ vs) (suc i) k =
+    let e : 4 * suc i + k ≡ suc (suc (suc (suc (4 * i + k)))) = omega arith in
+    rw e (bytes-from vs i k)
+
+-- the four bytes of the number at i stand at 4 i, and at 1, 2 and 3 further
+pub record BytesAt (vs : List ℕ) (i v : ℕ) : Type 0 where
+  pub byte-0 : getD (bytesOf vs) (4 * i) 0 ≡ v / 2 ^ 24 % 256
+  pub byte-1 : getD (bytesOf vs) (4 * i + 1) 0 ≡ v / 2 ^ 16 % 256
+  pub byte-2 : getD (bytesOf vs) (4 * i + 2) 0 ≡ v / 2 ^ 8 % 256
+  pub byte-3 : getD (bytesOf vs) (4 * i + 3) 0 ≡ v % 256
+
+bytes-at : (vs : List ℕ) (i : ℕ) → i < length vs → BytesAt vs i (getD vs i 0)
+unfolding bytesOf
+bytes-at vs i h =
+    let e : drop i vs ≡ getD vs i 0 ∷ drop (suc i) vs = drop-cons vs i 0 h in
+    record {
+      byte-0 = ap (λ (n : ℕ). getD (bytesOf vs) n 0) (sym (add-zero (4 * i))) ∙ bytes-from vs i 0 ∙ rw e;
+      byte-1 = bytes-from vs i 1 ∙ rw e;
+      byte-2 = bytes-from vs i 2 ∙ rw e;
+      byte-3 = bytes-from vs i 3 ∙ rw e;
+    }
+
+-- a list of bytes with one more number of a list put into it
+pub put-more : (l : List ℕ) (at : ℕ) (vs : List ℕ) (i : ℕ) → at + 4 * length vs ≤ length l → i < length vs
+    → putNumber (paste l at (bytesOf vs) (4 * i)) (at + 4 * i) (getD vs i 0) ≡ paste l at (bytesOf vs) (4 * (i + 1))
+unfolding putNumber
+put-more l at vs i h k =
+    let b = bytesOf vs in
+    let n : length b ≡ 4 * length vs = length-bytes vs in
+    let d : BytesAt vs i (getD vs i 0) = bytes-at vs i k in
+    let more : (j : ℕ) → 4 * i ≤ j → j < 4 * i + 4 → set (paste l at b j) (at + j) (getD b j 0) ≡ paste l at b (suc j) =
+    λ j p q. paste-suc l at b j 0 (omega arith) (omega arith) in
+    let e0 : at + 4 * i + 1 ≡ at + (4 * i + 1) = omega arith in
+    let e1 : at + 4 * i + 2 ≡ at + (4 * i + 2) = omega arith in
+    let e2 : at + 4 * i + 3 ≡ at + (4 * i + 3) = omega arith in
+    let s0 : suc (4 * i) ≡ 4 * i + 1 = omega arith in
+    let s1 : suc (4 * i + 1) ≡ 4 * i + 2 = omega arith in
+    let s2 : suc (4 * i + 2) ≡ 4 * i + 3 = omega arith in
+    let s3 : suc (4 * i + 3) ≡ 4 * (i + 1) = omega arith in
+    rw (
+      ← d .byte-0,
+      ← d .byte-1,
+      ← d .byte-2,
+      ← d .byte-3,
+      e0,
+      e1,
+      e2,
+      more (4 * i) (omega arith) (omega arith),
+      s0,
+      more (4 * i + 1) (omega arith) (omega arith),
+      s1,
+      more (4 * i + 2) (omega arith) (omega arith),
+      s2,
+      more (4 * i + 3) (omega arith) (omega arith),
+      s3,
+    )
+
+-- one more number is read
+pub read-more : (bytes list : List ℕ) (i : ℕ) → i < length list → take i list ≡ numbersOf bytes i
+    → take (i + 1) (set list i (numberAt bytes (4 * i))) ≡ numbersOf bytes (i + 1)
+unfolding numbersOf
+read-more bytes list i h e = rw (add-one i, take-suc-set list i (numberAt bytes (4 * i)) h, e)

@@ -1,5 +1,5 @@
 -- Numbers of 32 bits, and numbers of four bytes, big-endian, in lists of bytes.
-use Prim.Native.Nat.{ℕ, _+_, _*_, _-_, _/_, _%_, _^_}
+use Prim.Native.Nat.{ℕ, zero, suc, _+_, _*_, _-_, _/_, _%_, _^_}
 use mathlib.Core.List.{List, [], _∷_, _++_}
 use lib.Dec.{ltb}
 use lib.ListN.{length, getD, set, take, replicate}
@@ -25,6 +25,11 @@ numberAt bytes at = getD bytes at 0 * 2 ^ 24 + getD bytes (at + 1) 0 * 2 ^ 16 + 
 unfoldable pub putNumber : List ℕ → ℕ → ℕ → List ℕ
 putNumber bytes at v =
     set (set (set (set bytes at (v / 2 ^ 24 % 256)) (at + 1) (v / 2 ^ 16 % 256)) (at + 2) (v / 2 ^ 8 % 256)) (at + 3) (v % 256)
+
+-- the first n numbers of an area
+unfoldable pub numbersOf : List ℕ → ℕ → List ℕ
+numbersOf bytes zero = []
+numbersOf bytes (suc n) = numbersOf bytes n ++ (numberAt bytes (4 * n) ∷ [])
 
 -- the bytes of a list of numbers
 unfoldable pub bytesOf : List ℕ → List ℕ

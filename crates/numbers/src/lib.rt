@@ -1,8 +1,9 @@
 // Numbers of 32 bits, and numbers of four bytes, big-endian, in byte areas that the caller lends.
 ghost use mathlib.Core.Path.{_≡_};
 ghost use Prim.Native.Nat.{_+_, _*_, _/_, _%_, _≤_, _<_};
-ghost use lib.ListN.{length};
-ghost use Rattle.numbers.specs.Number.{plus, minus, numberAt, putNumber, zeroFrom};
+ghost use mathlib.Core.List.{_++_};
+ghost use lib.ListN.{length, take, drop};
+ghost use Rattle.numbers.specs.Number.{plus, minus, numberAt, putNumber, numbersOf, bytesOf, zeroFrom};
 
 // The sum modulo 2^32.
 pub fn add(a: u32, b: u32) -> u32
@@ -53,6 +54,30 @@ pub fn write_number(bytes: &mut [u8], at: usize, v: u32)
     bytes[at + 1] = (v / 65536 % 256) as u8;
     bytes[at + 2] = (v / 256 % 256) as u8;
     bytes[at + 3] = (v % 256) as u8;
+}
+
+// Fills a list with the first numbers of an area.
+pub fn read_numbers(bytes: &[u8], list: &mut [u32])
+    requires { ⌜ 4 * length (now list) ≤ length (now bytes) ⌝ }
+    ensures { λ _. ⌜ now (list .exit) ≡ numbersOf (now (bytes .entry)) (length (now (list .entry))) ⌝ }
+{
+    let mut i: usize = 0;
+    while i < list.len() {
+        list[i] = read_number(bytes, 4 * i);
+        i += 1;
+    }
+}
+
+// Puts the bytes of a list of numbers at a position.
+pub fn write_numbers(bytes: &mut [u8], at: usize, list: &[u32])
+    requires { ⌜ at + 4 * length (now list) ≤ length (now bytes) ⌝ }
+    ensures { λ _. ⌜ now (bytes .exit) ≡ take at (now (bytes .entry)) ++ bytesOf (now (list .entry)) ++ drop (at + 4 * length (now (list .entry))) (now (bytes .entry)) ⌝ }
+{
+    let mut i: usize = 0;
+    while i < list.len() {
+        write_number(bytes, at + 4 * i, list[i]);
+        i += 1;
+    }
 }
 
 // Sets the bytes from a position on to 0.

@@ -1,0 +1,4 @@
+pub mod Ends
+pub mod Overflow
+pub mod Loads
+pub mod Effects

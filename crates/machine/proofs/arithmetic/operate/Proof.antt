@@ -1,0 +1,282 @@
+use Rattle.machine.specs.Arithmetic.{outcomeOf, arithmeticOf}
+use borrow.Author.Needs.{needs}
+use Rattle.machine.proofs.arithmetic.operate.Statement.{statement}
+use Rattle.machine.proofs.arithmetic.operate.Tie as tie
+
+enum-told : tie.Need-enum-told
+enum-told c = search needs
+
+add-word-requires : tie.Need-add-word-requires
+add-word-requires c κs = search needs
+
+enum-told-2 : tie.Need-enum-told-2
+enum-told-2 c = search needs
+
+register-requires : tie.Need-register-requires
+register-requires c κs = search needs
+
+value-requires : tie.Need-value-requires
+value-requires c κs = search needs
+
+logic-word-requires : tie.Need-logic-word-requires
+logic-word-requires c κs = search needs
+
+enum-told-3 : tie.Need-enum-told-3
+enum-told-3 c = search needs
+
+register-requires-2 : tie.Need-register-requires-2
+register-requires-2 c κs = search needs
+
+value-requires-2 : tie.Need-value-requires-2
+value-requires-2 c κs = search needs
+
+logic-word-requires-2 : tie.Need-logic-word-requires-2
+logic-word-requires-2 c κs = search needs
+
+enum-told-4 : tie.Need-enum-told-4
+enum-told-4 c = search needs
+
+register-requires-3 : tie.Need-register-requires-3
+register-requires-3 c κs = search needs
+
+value-requires-3 : tie.Need-value-requires-3
+value-requires-3 c κs = search needs
+
+logic-word-requires-3 : tie.Need-logic-word-requires-3
+logic-word-requires-3 c κs = search needs
+
+enum-told-5 : tie.Need-enum-told-5
+enum-told-5 c = search needs
+
+subtract-word-requires : tie.Need-subtract-word-requires
+subtract-word-requires c κs = search needs
+
+enum-told-6 : tie.Need-enum-told-6
+enum-told-6 c = search needs
+
+register-requires-4 : tie.Need-register-requires-4
+register-requires-4 c κs = search needs
+
+value-requires-4 : tie.Need-value-requires-4
+value-requires-4 c κs = search needs
+
+complement-requires : tie.Need-complement-requires
+complement-requires c κs = search needs
+
+logic-word-requires-4 : tie.Need-logic-word-requires-4
+logic-word-requires-4 c κs = search needs
+
+enum-told-7 : tie.Need-enum-told-7
+enum-told-7 c = search needs
+
+register-requires-5 : tie.Need-register-requires-5
+register-requires-5 c κs = search needs
+
+value-requires-5 : tie.Need-value-requires-5
+value-requires-5 c κs = search needs
+
+complement-requires-2 : tie.Need-complement-requires-2
+complement-requires-2 c κs = search needs
+
+logic-word-requires-5 : tie.Need-logic-word-requires-5
+logic-word-requires-5 c κs = search needs
+
+enum-told-8 : tie.Need-enum-told-8
+enum-told-8 c = search needs
+
+register-requires-6 : tie.Need-register-requires-6
+register-requires-6 c κs = search needs
+
+value-requires-6 : tie.Need-value-requires-6
+value-requires-6 c κs = search needs
+
+complement-requires-3 : tie.Need-complement-requires-3
+complement-requires-3 c κs = search needs
+
+logic-word-requires-6 : tie.Need-logic-word-requires-6
+logic-word-requires-6 c κs = search needs
+
+enum-told-9 : tie.Need-enum-told-9
+enum-told-9 c = search needs
+
+carry-requires : tie.Need-carry-requires
+carry-requires c κs = search needs
+
+add-word-requires-2 : tie.Need-add-word-requires-2
+add-word-requires-2 c κs = search needs
+
+enum-told-10 : tie.Need-enum-told-10
+enum-told-10 c = search needs
+
+carry-requires-2 : tie.Need-carry-requires-2
+carry-requires-2 c κs = search needs
+
+subtract-word-requires-2 : tie.Need-subtract-word-requires-2
+subtract-word-requires-2 c κs = search needs
+
+enum-told-11 : tie.Need-enum-told-11
+enum-told-11 c = search needs
+
+register-requires-7 : tie.Need-register-requires-7
+register-requires-7 c κs = search needs
+
+value-requires-7 : tie.Need-value-requires-7
+value-requires-7 c κs = search needs
+
+shift-left-requires : tie.Need-shift-left-requires
+shift-left-requires c κs = search needs
+
+logic-word-requires-7 : tie.Need-logic-word-requires-7
+logic-word-requires-7 c κs = search needs
+
+enum-told-12 : tie.Need-enum-told-12
+enum-told-12 c = search needs
+
+register-requires-8 : tie.Need-register-requires-8
+register-requires-8 c κs = search needs
+
+value-requires-8 : tie.Need-value-requires-8
+value-requires-8 c κs = search needs
+
+shift-right-requires : tie.Need-shift-right-requires
+shift-right-requires c κs = search needs
+
+logic-word-requires-8 : tie.Need-logic-word-requires-8
+logic-word-requires-8 c κs = search needs
+
+enum-told-13 : tie.Need-enum-told-13
+enum-told-13 c = search needs
+
+register-requires-9 : tie.Need-register-requires-9
+register-requires-9 c κs = search needs
+
+value-requires-9 : tie.Need-value-requires-9
+value-requires-9 c κs = search needs
+
+shift-right-signed-requires : tie.Need-shift-right-signed-requires
+shift-right-signed-requires c κs = search needs
+
+logic-word-requires-9 : tie.Need-logic-word-requires-9
+logic-word-requires-9 c κs = search needs
+
+returns : tie.Need-returns
+unfolding arithmeticOf outcomeOf
+returns c = rw (c .before .before .enum-told .given .1) (c .add-word .ensures)
+
+returns-2 : tie.Need-returns-2
+unfolding arithmeticOf outcomeOf
+returns-2 c = rw (c .before .before .before .before .before .before .enum-told2 .given .1, ← c .before .before .before .register .ensures, ← c .before .value .ensures) (c .logic-word .ensures)
+
+returns-3 : tie.Need-returns-3
+unfolding arithmeticOf outcomeOf
+returns-3 c = rw (c .before .before .before .before .before .before .enum-told3 .given .1, ← c .before .before .before .register2 .ensures, ← c .before .value2 .ensures) (c .logic-word2 .ensures)
+
+returns-4 : tie.Need-returns-4
+unfolding arithmeticOf outcomeOf
+returns-4 c = rw (c .before .before .before .before .before .before .enum-told4 .given .1, ← c .before .before .before .register3 .ensures, ← c .before .value3 .ensures) (c .logic-word3 .ensures)
+
+returns-5 : tie.Need-returns-5
+unfolding arithmeticOf outcomeOf
+returns-5 c = rw (c .before .before .enum-told5 .given .1) (c .subtract-word .ensures)
+
+returns-6 : tie.Need-returns-6
+unfolding arithmeticOf outcomeOf
+returns-6 c = rw (c .before .before .before .before .before .before .before .enum-told6 .given .1, ← c .before .before .before .before .register4 .ensures, ← c .before .before .value4 .ensures, ← c .before .complement .ensures) (c .logic-word4 .ensures)
+
+returns-7 : tie.Need-returns-7
+unfolding arithmeticOf outcomeOf
+returns-7 c = rw (c .before .before .before .before .before .before .before .enum-told7 .given .1, ← c .before .before .before .before .register5 .ensures, ← c .before .before .value5 .ensures, ← c .before .complement2 .ensures) (c .logic-word5 .ensures)
+
+returns-8 : tie.Need-returns-8
+unfolding arithmeticOf outcomeOf
+returns-8 c = rw (c .before .before .before .before .before .before .before .enum-told8 .given .1, ← c .before .before .before .before .register6 .ensures, ← c .before .before .value6 .ensures, ← c .before .complement3 .ensures) (c .logic-word6 .ensures)
+
+returns-9 : tie.Need-returns-9
+unfolding arithmeticOf outcomeOf
+returns-9 c = rw (c .before .before .before .enum-told9 .given .1, ← c .before .carry .ensures .0) (c .add-word2 .ensures)
+
+returns-10 : tie.Need-returns-10
+unfolding arithmeticOf outcomeOf
+returns-10 c = rw (c .before .before .before .enum-told10 .given .1, ← c .before .carry2 .ensures .0) (c .subtract-word2 .ensures)
+
+returns-11 : tie.Need-returns-11
+unfolding arithmeticOf outcomeOf
+returns-11 c = rw (c .before .before .before .before .before .before .before .enum-told11 .given .1, ← c .before .before .before .before .register7 .ensures, ← c .before .before .value7 .ensures, ← c .before .shift-left .ensures) (c .logic-word7 .ensures)
+
+returns-12 : tie.Need-returns-12
+unfolding arithmeticOf outcomeOf
+returns-12 c = rw (c .before .before .before .before .before .before .before .enum-told12 .given .1, ← c .before .before .before .before .register8 .ensures, ← c .before .before .value8 .ensures, ← c .before .shift-right .ensures) (c .logic-word8 .ensures)
+
+returns-13 : tie.Need-returns-13
+unfolding arithmeticOf outcomeOf
+returns-13 c = rw (c .before .before .before .before .before .before .before .enum-told13 .given .1, ← c .before .before .before .before .register9 .ensures, ← c .before .before .value9 .ensures, ← c .before .shift-right-signed .ensures) (c .logic-word9 .ensures)
+
+pub operate-spec : {M : Type 1} → statement M
+operate-spec =
+    tie.close
+    (tie.spec
+    enum-told
+    add-word-requires
+    enum-told-2
+    register-requires
+    value-requires
+    logic-word-requires
+    enum-told-3
+    register-requires-2
+    value-requires-2
+    logic-word-requires-2
+    enum-told-4
+    register-requires-3
+    value-requires-3
+    logic-word-requires-3
+    enum-told-5
+    subtract-word-requires
+    enum-told-6
+    register-requires-4
+    value-requires-4
+    complement-requires
+    logic-word-requires-4
+    enum-told-7
+    register-requires-5
+    value-requires-5
+    complement-requires-2
+    logic-word-requires-5
+    enum-told-8
+    register-requires-6
+    value-requires-6
+    complement-requires-3
+    logic-word-requires-6
+    enum-told-9
+    carry-requires
+    add-word-requires-2
+    enum-told-10
+    carry-requires-2
+    subtract-word-requires-2
+    enum-told-11
+    register-requires-7
+    value-requires-7
+    shift-left-requires
+    logic-word-requires-7
+    enum-told-12
+    register-requires-8
+    value-requires-8
+    shift-right-requires
+    logic-word-requires-8
+    enum-told-13
+    register-requires-9
+    value-requires-9
+    shift-right-signed-requires
+    logic-word-requires-9
+    returns
+    returns-2
+    returns-3
+    returns-4
+    returns-5
+    returns-6
+    returns-7
+    returns-8
+    returns-9
+    returns-10
+    returns-11
+    returns-12
+    returns-13)

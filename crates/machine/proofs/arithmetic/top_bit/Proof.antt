@@ -1,0 +1,11 @@
+use Rattle.machine.specs.Arithmetic.{top}
+use mathlib.Core.Path.{refl}
+use Rattle.machine.proofs.arithmetic.top_bit.Statement.{statement}
+use Rattle.machine.proofs.arithmetic.top_bit.Tie as tie
+
+returns : tie.Need-returns
+unfolding top
+returns c = refl
+
+pub top-bit-spec : {M : Type 1} → statement M
+top-bit-spec = tie.close (tie.spec returns)

@@ -1,0 +1,96 @@
+use Rattle.machine.proofs.Ends.{settle-within}
+use Rattle.machine.proofs.Effects.{idle}
+use Rattle.machine.specs.Ends.{endingOf, settle}
+use Rattle.machine.specs.Effect.{effectOf, machine, withRegisters, withArea}
+use borrow.Author.Needs.{needs}
+use Rattle.machine.proofs.effect.perform.Statement.{statement}
+use Rattle.machine.proofs.effect.perform.Tie as tie
+
+enum-known-i : tie.Need-enum-known-i
+enum-known-i c = search needs
+
+put-requires : tie.Need-put-requires
+put-requires c κs = search needs
+
+enum-known-i-2 : tie.Need-enum-known-i-2
+enum-known-i-2 c = search needs
+
+operate-requires : tie.Need-operate-requires
+operate-requires c κs = search needs
+
+enum-known-i-3 : tie.Need-enum-known-i-3
+enum-known-i-3 c = search needs
+
+trap-requires : tie.Need-trap-requires
+trap-requires c κs = search needs
+
+enum-known-i-4 : tie.Need-enum-known-i-4
+enum-known-i-4 c = search needs
+
+load-requires : tie.Need-load-requires
+load-requires c κs = search needs
+
+enum-known-i-5 : tie.Need-enum-known-i-5
+enum-known-i-5 c = search needs
+
+store-requires : tie.Need-store-requires
+store-requires c κs = search needs
+
+returns : tie.Need-returns
+unfolding effectOf settle endingOf
+returns c = rw (c .before .before .before .i .given .1, c .put .ensures)
+
+returns-2 : tie.Need-returns-2
+unfolding effectOf settle endingOf
+returns-2 c = rw (c .before .before .before .i2 .given .1, ← c .operate .ensures)
+
+returns-3 : tie.Need-returns-3
+unfolding effectOf
+returns-3 c = let a = c .before .before .before .before .before .before .args in
+    let m = machine (a .regs .now) (a .f .nzvc) (a .area .now) in
+    rw (c .before .before .before .i3 .given .1) (settle-within (λ (u : Unit {0}). m) _ _ _ _ (c .trap .ensures))
+
+same-length : tie.Need-same-length
+same-length c = search needs
+
+returns-4 : tie.Need-returns-4
+unfolding effectOf
+returns-4 c = let a = c .before .before .before .before .before .before .before .args in
+    let m = machine (a .regs .now) (a .f .nzvc) (a .area .now) in
+    rw (c .before .before .before .before .i4 .given .1) (settle-within (withRegisters m) _ _ _ _ (c .load .ensures))
+
+same-length-2 : tie.Need-same-length-2
+same-length-2 c = search needs
+
+returns-5 : tie.Need-returns-5
+unfolding effectOf
+returns-5 c = let a = c .before .before .before .before .before .before .before .before .before .args in
+    let m = machine (a .regs .now) (a .f .nzvc) (a .area .now) in
+    rw (c .before .before .before .before .before .before .i5 .given .1) (settle-within (withArea m) _ _ _ _ (c .before .before .store .ensures))
+
+returns-6 : tie.Need-returns-6
+unfolding endingOf
+returns-6 c = idle _ _ _ (c .match .keys6)
+
+pub perform-spec : {M : Type 1} → statement M
+perform-spec =
+    tie.close
+    (tie.spec
+    enum-known-i
+    put-requires
+    enum-known-i-2
+    operate-requires
+    enum-known-i-3
+    trap-requires
+    enum-known-i-4
+    load-requires
+    enum-known-i-5
+    store-requires
+    returns
+    returns-2
+    returns-3
+    same-length
+    returns-4
+    same-length-2
+    returns-5
+    returns-6)

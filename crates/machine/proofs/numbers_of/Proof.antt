@@ -1,0 +1,81 @@
+use Rattle.machine.specs.Ends.{endingOf}
+use borrow.Author.Needs.{needs}
+use Rattle.machine.proofs.numbers_of.Statement.{statement}
+use Rattle.machine.proofs.numbers_of.Tie as tie
+
+enum-told : tie.Need-enum-told
+enum-told c = search needs
+
+enum-known-e : tie.Need-enum-known-e
+enum-known-e c = search needs
+
+enum-known-e-2 : tie.Need-enum-known-e-2
+enum-known-e-2 c = search needs
+
+enum-known-e-3 : tie.Need-enum-known-e-3
+enum-known-e-3 c = search needs
+
+enum-known-e-4 : tie.Need-enum-known-e-4
+enum-known-e-4 c = search needs
+
+enum-known-e-5 : tie.Need-enum-known-e-5
+enum-known-e-5 c = search needs
+
+enum-known-e-6 : tie.Need-enum-known-e-6
+enum-known-e-6 c = search needs
+
+enum-known-e-7 : tie.Need-enum-known-e-7
+enum-known-e-7 c = search needs
+
+returns : tie.Need-returns
+unfolding endingOf
+returns c = rw (c .enum-told .given .1)
+
+returns-2 : tie.Need-returns-2
+unfolding endingOf
+returns-2 c = rw (c .before .e .given .1)
+
+returns-3 : tie.Need-returns-3
+unfolding endingOf
+returns-3 c = rw (c .before .e2 .given .1)
+
+returns-4 : tie.Need-returns-4
+unfolding endingOf
+returns-4 c = rw (c .before .e3 .given .1)
+
+returns-5 : tie.Need-returns-5
+unfolding endingOf
+returns-5 c = rw (c .before .e4 .given .1)
+
+returns-6 : tie.Need-returns-6
+unfolding endingOf
+returns-6 c = rw (c .before .e5 .given .1)
+
+returns-7 : tie.Need-returns-7
+unfolding endingOf
+returns-7 c = rw (c .before .e6 .given .1)
+
+returns-8 : tie.Need-returns-8
+unfolding endingOf
+returns-8 c = rw (c .before .e7 .given .1)
+
+pub numbers-of-spec : {M : Type 1} → statement M
+numbers-of-spec =
+    tie.close
+    (tie.spec
+    enum-told
+    enum-known-e
+    enum-known-e-2
+    enum-known-e-3
+    enum-known-e-4
+    enum-known-e-5
+    enum-known-e-6
+    enum-known-e-7
+    returns
+    returns-2
+    returns-3
+    returns-4
+    returns-5
+    returns-6
+    returns-7
+    returns-8)

@@ -1,0 +1,20 @@
+use Rattle.machine.specs.Registers.{addressOf}
+use borrow.Author.Needs.{needs}
+use Rattle.machine.proofs.registers.address.Statement.{statement}
+use Rattle.machine.proofs.registers.address.Tie as tie
+
+register-requires : tie.Need-register-requires
+register-requires c κs = search needs
+
+value-requires : tie.Need-value-requires
+value-requires c κs = search needs
+
+add-requires : tie.Need-add-requires
+add-requires c κs = search needs
+
+returns : tie.Need-returns
+unfolding addressOf
+returns c = rw (← c .before .before .register .ensures, ← c .before .value .ensures) (c .add .ensures)
+
+pub address-spec : {M : Type 1} → statement M
+address-spec = tie.close (tie.spec register-requires value-requires add-requires returns)

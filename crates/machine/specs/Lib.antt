@@ -1,0 +1,5 @@
+pub mod Ends
+pub mod Registers
+pub mod Arithmetic
+pub mod DataArea
+pub mod Effect

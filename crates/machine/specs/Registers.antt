@@ -1,0 +1,23 @@
+-- 01, The old core: "32 registers of 32 bits".
+use Prim.Native.Nat.{ℕ, _%_}
+use mathlib.Core.List.{List}
+use lib.ListN.{getD, set}
+use Rattle.numbers.specs.Number.{plus}
+use Rattle.words.specs.declared.Operand.{Operand}
+use Rattle.words.specs.declared.Operand.the-variants.{Register, Constant}
+
+-- "Register 0 reads and shows as 0": it is 0 in every state that a run starts from, and every write leaves it so (proofs/Zero of model)
+unfoldable pub registerOf : List ℕ → ℕ → ℕ
+registerOf rs i = getD rs (i % 32) 0
+
+unfoldable pub putRegister : List ℕ → ℕ → ℕ → List ℕ
+putRegister rs i v = set (set rs (i % 32) v) 0 0
+
+-- the second operand's value
+unfoldable pub valueOf : List ℕ → Operand → ℕ
+valueOf rs (Register i) = registerOf rs i
+valueOf rs (Constant k) = k
+
+-- rs1 plus the second operand
+unfoldable pub addressOf : List ℕ → ℕ → Operand → ℕ
+addressOf rs rs1 x = plus (registerOf rs rs1) (valueOf rs x)

@@ -1,0 +1,229 @@
+// Arithmetic, logic and shifts, with the flags that their flag forms set.
+ghost use mathlib.Core.Path.{_≡_};
+ghost use Prim.Native.Nat.{_+_, _-_, _*_, _/_, _%_, _<_};
+ghost use lib.Dec.{ltb, eqb};
+ghost use Rattle.words.specs.Conditions.{bitOf, nzvcOf};
+ghost use Rattle.machine.specs.Registers.{registerOf, valueOf};
+ghost use Rattle.machine.specs.Arithmetic.{top, addOverflow, subOverflow, shiftedLeft, shiftedRight, shiftedSigned, carryOf, sumOf, differenceOf, logicOf, written, after, arithmeticOf};
+use crate::Flags;
+use crate::bit;
+use crate::registers::put;
+use crate::registers::register;
+use crate::registers::value;
+use words::Operand;
+use words::Operation;
+
+fn top_bit(x: u32) -> bool
+    ensures { λ r. ⌜ r ≡ top x ⌝ }
+{
+    2147483648 <= x
+}
+
+fn complement(x: u32) -> u32
+    ensures { λ r. ⌜ r ≡ 4294967295 - x ⌝ }
+{
+    4294967295 - x
+}
+
+fn low5(x: u32) -> u32
+    ensures { λ r. ⌜ r ≡ x % 32 ⌝ }
+{
+    x & 31
+}
+
+fn shift_left(a: u32, b: u32) -> u32
+    ensures { λ r. ⌜ r ≡ shiftedLeft a b ⌝ }
+{
+    a << low5(b)
+}
+
+fn shift_right(a: u32, b: u32) -> u32
+    ensures { λ r. ⌜ r ≡ shiftedRight a b ⌝ }
+{
+    a >> low5(b)
+}
+
+// The sign comes in from the left.
+fn shift_right_signed(a: u32, b: u32) -> u32
+    ensures { λ r. ⌜ r ≡ shiftedSigned a b ⌝ }
+{
+    if top_bit(a) {
+        complement(shift_right(complement(a), b))
+    } else {
+        shift_right(a, b)
+    }
+}
+
+// V of a sum and of a difference, and C of a sum.
+fn sum_overflows(a: u32, b: u32, r: u32) -> u32
+    ensures { λ v. ⌜ (v ≡ bitOf (addOverflow (top a) (top b) (top r))) × (v < 2) ⌝ }
+{
+    ((a ^ r) & (b ^ r)) >> 31
+}
+
+fn difference_overflows(a: u32, b: u32, r: u32) -> u32
+    ensures { λ v. ⌜ (v ≡ bitOf (subOverflow (top a) (top b) (top r))) × (v < 2) ⌝ }
+{
+    ((a ^ b) & (a ^ r)) >> 31
+}
+
+fn sum_carries(a: u32, b: u32, k: u32) -> u32
+    requires { ⌜ k < 2 ⌝ }
+    ensures { λ v. ⌜ (v ≡ bitOf (ltb 4294967295 (a + b + k))) × (v < 2) ⌝ }
+{
+    let s = a as u64 + b as u64 + k as u64;
+    (s >> 32) as u32
+}
+
+// The flags from a result, V and C.
+fn flags_with(r: u32, v: u32, c: u32) -> Flags
+    requires { ⌜ (v < 2) × (c < 2) ⌝ }
+    ensures { λ f. ⌜ f .nzvc ≡ bitOf (top r) * 8 + bitOf (eqb r 0) * 4 + v * 2 + c ⌝ }
+{
+    let n = (r >> 31) * 8 + bit(r == 0) * 4 + v * 2 + c;
+    Flags { nzvc: n }
+}
+
+fn sum_flags(a: u32, b: u32, k: u32, r: u32) -> Flags
+    requires { ⌜ k < 2 ⌝ }
+    ensures { λ f. ⌜ f .nzvc ≡ nzvcOf (top r) (eqb r 0) (addOverflow (top a) (top b) (top r)) (ltb 4294967295 (a + b + k)) ⌝ }
+{
+    flags_with(r, sum_overflows(a, b, r), sum_carries(a, b, k))
+}
+
+fn difference_flags(a: u32, b: u32, k: u32, r: u32) -> Flags
+    requires { ⌜ k < 2 ⌝ }
+    ensures { λ f. ⌜ f .nzvc ≡ nzvcOf (top r) (eqb r 0) (subOverflow (top a) (top b) (top r)) (ltb a (b + k)) ⌝ }
+{
+    let c = bit((a as u64) < b as u64 + k as u64);
+    flags_with(r, difference_overflows(a, b, r), c)
+}
+
+// C, as a number.
+fn carry(f: Flags) -> u32
+    ensures { λ r. ⌜ (r ≡ carryOf (f .nzvc)) × (r < 2) ⌝ }
+{
+    f.nzvc & 1
+}
+
+// add and addx: k is what comes in from C.
+fn add_word(
+    f: Flags,
+    regs: &mut [u32; 32],
+    k: u32,
+    cc: bool,
+    rd: u32,
+    rs1: u32,
+    x: Operand,
+) -> Flags
+    requires { ⌜ k < 2 ⌝ }
+    ensures { λ r. ⌜ after (r .nzvc) (now (regs .exit)) ≡ written (f .nzvc) (now (regs .entry)) cc rd (sumOf (registerOf (now (regs .entry)) rs1) (valueOf (now (regs .entry)) x) k) ⌝ }
+{
+    let a = register(regs, rs1);
+    let b = value(regs, x);
+    let v = numbers::add(numbers::add(a, b), k);
+    put(regs, rd, v);
+    if cc {
+        return sum_flags(a, b, k, v);
+    }
+    f
+}
+
+// sub and subx.
+fn subtract_word(
+    f: Flags,
+    regs: &mut [u32; 32],
+    k: u32,
+    cc: bool,
+    rd: u32,
+    rs1: u32,
+    x: Operand,
+) -> Flags
+    requires { ⌜ k < 2 ⌝ }
+    ensures { λ r. ⌜ after (r .nzvc) (now (regs .exit)) ≡ written (f .nzvc) (now (regs .entry)) cc rd (differenceOf (registerOf (now (regs .entry)) rs1) (valueOf (now (regs .entry)) x) k) ⌝ }
+{
+    let a = register(regs, rs1);
+    let b = value(regs, x);
+    let v = numbers::subtract(numbers::subtract(a, b), k);
+    put(regs, rd, v);
+    if cc {
+        return difference_flags(a, b, k, v);
+    }
+    f
+}
+
+// A result that clears V and C where it sets the flags.
+fn logic_word(f: Flags, regs: &mut [u32; 32], cc: bool, rd: u32, v: u32) -> Flags
+    ensures { λ r. ⌜ after (r .nzvc) (now (regs .exit)) ≡ written (f .nzvc) (now (regs .entry)) cc rd (logicOf v) ⌝ }
+{
+    put(regs, rd, v);
+    if cc {
+        return flags_with(v, 0, 0);
+    }
+    f
+}
+
+// The operation is matched before a register is read, so that the compiler joins this match with the reader's.
+pub fn operate(
+    f: Flags,
+    regs: &mut [u32; 32],
+    o: Operation,
+    cc: bool,
+    rd: u32,
+    rs1: u32,
+    x: Operand,
+) -> Flags
+    ensures { λ r. ⌜ after (r .nzvc) (now (regs .exit)) ≡ arithmeticOf (f .nzvc) (now (regs .entry)) o cc rd rs1 x ⌝ }
+{
+    match o {
+        Operation::Add => add_word(f, regs, 0, cc, rd, rs1, x),
+        Operation::And => logic_word(f, regs, cc, rd, register(regs, rs1) & value(regs, x)),
+        Operation::Or => logic_word(f, regs, cc, rd, register(regs, rs1) | value(regs, x)),
+        Operation::Xor => logic_word(f, regs, cc, rd, register(regs, rs1) ^ value(regs, x)),
+        Operation::Sub => subtract_word(f, regs, 0, cc, rd, rs1, x),
+        Operation::Andn => logic_word(
+            f,
+            regs,
+            cc,
+            rd,
+            register(regs, rs1) & complement(value(regs, x)),
+        ),
+        Operation::Orn => logic_word(
+            f,
+            regs,
+            cc,
+            rd,
+            register(regs, rs1) | complement(value(regs, x)),
+        ),
+        Operation::Xnor => logic_word(
+            f,
+            regs,
+            cc,
+            rd,
+            register(regs, rs1) ^ complement(value(regs, x)),
+        ),
+        Operation::Addx => add_word(f, regs, carry(f), cc, rd, rs1, x),
+        Operation::Subx => subtract_word(f, regs, carry(f), cc, rd, rs1, x),
+        Operation::Sll => logic_word(
+            f,
+            regs,
+            cc,
+            rd,
+            shift_left(register(regs, rs1), value(regs, x)),
+        ),
+        Operation::Srl => logic_word(
+            f,
+            regs,
+            cc,
+            rd,
+            shift_right(register(regs, rs1), value(regs, x)),
+        ),
+        Operation::Sra => logic_word(
+            f,
+            regs,
+            cc,
+            rd,
+            shift_right_signed(register(regs, rs1), value(regs, x)),
+        ),
+    }
+}

@@ -1,0 +1,76 @@
+// The effect of a word that does not transfer control: one function, which both cores call.
+ghost use mathlib.Core.Path.{_≡_};
+ghost use Rattle.words.specs.Conditions.{holdsOf};
+ghost use Rattle.machine.specs.Ends.{left, settle};
+ghost use Rattle.machine.specs.Effect.{machine, trapOf, effectOf};
+use crate::End;
+use crate::Flags;
+use crate::arithmetic::operate;
+use crate::data_area::load;
+use crate::data_area::store;
+use crate::registers::address;
+use crate::registers::put;
+use words::Instruction;
+use words::Operand;
+
+// Whether a condition holds of the flags.
+pub fn holds(f: Flags, cond: u32) -> bool
+    ensures { λ r. ⌜ r ≡ holdsOf cond (f .nzvc) ⌝ }
+{
+    words::holds(cond, f.nzvc)
+}
+
+// The end that a Ticc meets, if its condition holds.
+fn trap(f: Flags, regs: &[u32; 32], cond: u32, rs1: u32, x: Operand) -> End
+    ensures { λ r. ⌜ left tt r ≡ settle tt (trapOf (f .nzvc) (now (regs .entry)) cond rs1 x) ⌝ }
+{
+    if holds(f, cond) {
+        let t = address(regs, rs1, x);
+        return End::TrapTaken(t % 128);
+    }
+    End::Going
+}
+
+// The flags after a word, and how the run ended with it.
+pub struct Effect {
+    pub flags: Flags,
+    pub end: End,
+}
+
+// What a word does that does not transfer control; the others do nothing here.
+pub fn perform(i: Instruction, db: u32, regs: &mut [u32; 32], f: Flags, area: &mut [u8]) -> Effect
+    ensures { λ r. ⌜ left (machine (now (regs .exit)) (r .flags .nzvc) (now (area .exit))) (r .end) ≡ settle (machine (now (regs .entry)) (f .nzvc) (now (area .entry))) (effectOf db i (machine (now (regs .entry)) (f .nzvc) (now (area .entry)))) ⌝ }
+{
+    match i {
+        Instruction::Sethi(rd, k) => {
+            put(regs, rd, k << 10);
+            Effect {
+                flags: f,
+                end: End::Going,
+            }
+        }
+        Instruction::Arithmetic(o, cc, rd, rs1, x) => {
+            let g = operate(f, regs, o, cc, rd, rs1, x);
+            Effect {
+                flags: g,
+                end: End::Going,
+            }
+        }
+        Instruction::Ticc(cond, rs1, x) => {
+            let e = trap(f, regs, cond, rs1, x);
+            Effect { flags: f, end: e }
+        }
+        Instruction::Load(w, sign, rd, rs1, x) => {
+            let e = load(w, sign, db, regs, area, rd, rs1, x);
+            Effect { flags: f, end: e }
+        }
+        Instruction::Store(w, rd, rs1, x) => {
+            let e = store(w, db, regs, area, rd, rs1, x);
+            Effect { flags: f, end: e }
+        }
+        _ => Effect {
+            flags: f,
+            end: End::Going,
+        },
+    }
+}

@@ -1,0 +1,90 @@
+// What both cores share: registers, flags, the data area, how a run ended, and the words that do not transfer control.
+ghost use mathlib.Core.Path.{_≡_};
+ghost use Prim.Native.Nat.{_<_};
+ghost use Rattle.words.specs.Conditions.{bitOf};
+ghost use Rattle.machine.specs.Ends.{ending, endingOf, endingFrom, isGoing};
+
+pub mod arithmetic;
+pub mod data_area;
+pub mod effect;
+pub mod registers;
+
+// An address of the source program. It is never read as a record number.
+pub struct SourcePc(pub u32);
+
+// The flags N, Z, V and C as one number, 8N + 4Z + 2V + C.
+pub struct Flags {
+    pub nzvc: u32,
+}
+
+impl Flags {
+    pub const CLEAR: Flags = Flags { nzvc: 0 };
+}
+
+// How a run ended, with the number beside it: an address, or what a variant says.
+pub enum End {
+    Going,
+    // (rs1 + operand) modulo 128
+    TrapTaken(u32),
+    Outside(u32),
+    IllegalWord(u32),
+    Misaligned(u32),
+    Unfit(u32),
+    // ends of the new core alone; the second has the record number
+    NoPlace(u32),
+    BadRecord(u32),
+}
+
+pub fn is_going(e: End) -> bool
+    ensures { λ r. ⌜ r ≡ isGoing e ⌝ }
+{
+    match e {
+        End::Going => true,
+        _ => false,
+    }
+}
+
+// An end's number, and the number beside it.
+#[repr(C)]
+pub struct Ended {
+    pub end: u32,
+    pub number: u32,
+}
+
+pub fn numbers_of(e: End) -> Ended
+    ensures { λ r. ⌜ ending (r .end) (r .number) ≡ endingOf e ⌝ }
+{
+    match e {
+        End::Going => Ended { end: 0, number: 0 },
+        End::TrapTaken(v) => Ended { end: 1, number: v },
+        End::Outside(v) => Ended { end: 2, number: v },
+        End::IllegalWord(v) => Ended { end: 3, number: v },
+        End::Misaligned(v) => Ended { end: 4, number: v },
+        End::Unfit(v) => Ended { end: 5, number: v },
+        End::NoPlace(v) => Ended { end: 6, number: v },
+        End::BadRecord(v) => Ended { end: 7, number: v },
+    }
+}
+
+// The end of two numbers in a state's bytes: any number but 1 to 7 counts as still going.
+pub fn end_from(end: u32, v: u32) -> End
+    ensures { λ r. ⌜ endingOf r ≡ endingFrom end v ⌝ }
+{
+    match end {
+        1 => End::TrapTaken(v),
+        2 => End::Outside(v),
+        3 => End::IllegalWord(v),
+        4 => End::Misaligned(v),
+        5 => End::Unfit(v),
+        6 => End::NoPlace(v),
+        7 => End::BadRecord(v),
+        _ => End::Going,
+    }
+}
+
+// A test as a number.
+pub fn bit(b: bool) -> u32
+    ensures { λ r. ⌜ (r ≡ bitOf b) × (r < 2) ⌝ }
+{
+    if b { 1 } else { 0 }
+}
