@@ -1,14 +1,27 @@
 -- Laws of effects: the words that are not done here.
+use Rattle.numbers.proofs.Choice.{either}
+use Rattle.numbers.specs.Number.{minus}
+use Rattle.numbers.specs.Choice.{pick}
+use Rattle.words.specs.declared.Width.{Width}
+use Rattle.words.specs.declared.Operand.{Operand}
+use Rattle.words.specs.Conditions.{holdsOf}
+use Rattle.machine.proofs.Ends.{EndsWell, within-ends}
+use Rattle.machine.specs.Registers.{registerOf, putRegister, addressOf}
+use Rattle.machine.specs.DataArea.{sizeOf, putValue, loadedAt, access, loadOf, storeOf}
+use lib.ListN.{length}
+use lib.Dec.{eqb, leb}
+use native.Mathlib.Omega.{arith}
+use mathlib.Core.Bool.{Bool}
 use Rattle.words.specs.declared.Instruction.the-variants.{Illegal, Call, Sethi, Bicc, Arithmetic, Jmpl, Ticc, Load, Store}
 use Rattle.words.specs.declared.Instruction.{Instruction}
-use Rattle.machine.specs.Ends.{live, settle}
-use Rattle.machine.specs.Effect.{effectOf, Machine}
+use Rattle.machine.specs.Ends.{live, settle, ending, go, halt}
+use Rattle.machine.specs.Effect.{effectOf, Machine, trapOf, withRegisters, withArea}
 use denote.Enum.Declared.{tagOf}
 use Rattle.words.proofs.Instruction.{the-type as instruction}
 use types.Run.{OneOf, miss}
 use mathlib.Core.List.{List, [], _∷_}
 use mathlib.Core.Path.{_≡_, refl}
-use Prim.Native.Nat.{ℕ}
+use Prim.Native.Nat.{ℕ, _+_, _%_}
 
 -- the numbers are those of the variants, in the order of the enum
 abbrev transfers : List ℕ
@@ -25,3 +38,38 @@ idle db (Arithmetic o cc rd rs1 x) m k = absurd (miss transfers 4 tt k)
 idle db (Ticc cond rs1 x) m k = absurd (miss transfers 6 tt k)
 idle db (Load w sign rd rs1 x) m k = absurd (miss transfers 7 tt k)
 idle db (Store w rd rs1 x) m k = absurd (miss transfers 8 tt k)
+
+-- a word ends a run with 1, 4 or 5 alone
+access-ends : (w : Width) (db t : ℕ) (area made : List ℕ) → EndsWell (access w db t area made)
+access-ends w db t area made =
+    either (EndsWell {S = List ℕ}) (eqb (t % sizeOf w) 0) (pick (leb (minus t db + sizeOf w) (length area)) (go made) (halt (ending 5 t)))
+    (halt (ending 4 t))
+    (either (EndsWell {S = List ℕ}) (leb (minus t db + sizeOf w) (length area)) (go made) (halt (ending 5 t)) tt (omega arith))
+    (omega arith)
+
+trap-ends : (f : ℕ) (rs : List ℕ) (cond rs1 : ℕ) (x : Operand) → EndsWell (trapOf f rs cond rs1 x)
+unfolding trapOf
+trap-ends f rs cond rs1 x =
+    either (EndsWell {S = Unit {0}}) (holdsOf cond f) (halt (ending 1 (addressOf rs rs1 x % 128))) (go tt) (omega arith) tt
+
+load-ends : (w : Width) (sign : Bool) (db : ℕ) (area : List ℕ) (rd t : ℕ) (rs : List ℕ) → EndsWell (loadOf w sign db area rd t rs)
+unfolding loadOf
+load-ends w sign db area rd t rs = access-ends w db t area (putRegister rs rd (loadedAt w sign area (minus t db)))
+
+store-ends : (w : Width) (db v t : ℕ) (area : List ℕ) → EndsWell (storeOf w db v t area)
+unfolding storeOf
+store-ends w db v t area = access-ends w db t area (putValue w area (minus t db) v)
+
+pub effects-end : (db : ℕ) (i : Instruction) (m : Machine) → EndsWell (effectOf db i m)
+unfolding effectOf
+effects-end db Illegal m = tt
+effects-end db (Call disp) m = tt
+effects-end db (Bicc cond annul disp) m = tt
+effects-end db (Jmpl rd rs1 x) m = tt
+effects-end db (Sethi rd imm) m = tt
+effects-end db (Arithmetic o cc rd rs1 x) m = tt
+effects-end db (Ticc cond rs1 x) m = within-ends (λ u. m) _ (trap-ends (m .flags) (m .registers) cond rs1 x)
+effects-end db (Load w sign rd rs1 x) m =
+    within-ends (withRegisters m) _ (load-ends w sign db (m .area) rd (addressOf (m .registers) rs1 x) (m .registers))
+effects-end db (Store w rd rs1 x) m =
+    within-ends (withArea m) _ (store-ends w db (registerOf (m .registers) rd) (addressOf (m .registers) rs1 x) (m .area))

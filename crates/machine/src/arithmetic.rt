@@ -8,7 +8,7 @@ ghost use Rattle.machine.specs.Arithmetic.{top, addOverflow, subOverflow
 use crate::Flags;
 use crate::bit;
 use crate::registers::put;
-use crate::registers::register;
+use crate::registers::reg;
 use crate::registers::value;
 use words::Operand;
 use words::Operation;
@@ -31,26 +31,26 @@ fn low5(x: u32) -> u32
     x & 31
 }
 
-fn shift_left(a: u32, b: u32) -> u32
+fn sll(a: u32, b: u32) -> u32
     ensures { λ r. ⌜ r ≡ shiftedLeft a b ⌝ }
 {
     a << low5(b)
 }
 
-fn shift_right(a: u32, b: u32) -> u32
+fn srl(a: u32, b: u32) -> u32
     ensures { λ r. ⌜ r ≡ shiftedRight a b ⌝ }
 {
     a >> low5(b)
 }
 
 // The sign comes in from the left.
-fn shift_right_signed(a: u32, b: u32) -> u32
+fn sra(a: u32, b: u32) -> u32
     ensures { λ r. ⌜ r ≡ shiftedSigned a b ⌝ }
 {
     if top_bit(a) {
-        complement(shift_right(complement(a), b))
+        complement(srl(complement(a), b))
     } else {
-        shift_right(a, b)
+        srl(a, b)
     }
 }
 
@@ -119,7 +119,7 @@ fn add_word(
     requires { ⌜ k < 2 ⌝ }
     ensures { λ r. ⌜ after (r .nzvc) (now (regs .exit)) ≡ written (f .nzvc) (now (regs .entry)) cc rd (sumOf (registerOf (now (regs .entry)) rs1) (valueOf (now (regs .entry)) x) k) ⌝ }
 {
-    let a = register(regs, rs1);
+    let a = reg(regs, rs1);
     let b = value(regs, x);
     let v = numbers::add(numbers::add(a, b), k);
     put(regs, rd, v);
@@ -142,7 +142,7 @@ fn subtract_word(
     requires { ⌜ k < 2 ⌝ }
     ensures { λ r. ⌜ after (r .nzvc) (now (regs .exit)) ≡ written (f .nzvc) (now (regs .entry)) cc rd (differenceOf (registerOf (now (regs .entry)) rs1) (valueOf (now (regs .entry)) x) k) ⌝ }
 {
-    let a = register(regs, rs1);
+    let a = reg(regs, rs1);
     let b = value(regs, x);
     let v = numbers::subtract(numbers::subtract(a, b), k);
     put(regs, rd, v);
@@ -177,53 +177,17 @@ pub fn operate(
 {
     match o {
         Operation::Add => add_word(f, regs, 0, cc, rd, rs1, x),
-        Operation::And => logic_word(f, regs, cc, rd, register(regs, rs1) & value(regs, x)),
-        Operation::Or => logic_word(f, regs, cc, rd, register(regs, rs1) | value(regs, x)),
-        Operation::Xor => logic_word(f, regs, cc, rd, register(regs, rs1) ^ value(regs, x)),
+        Operation::And => logic_word(f, regs, cc, rd, reg(regs, rs1) & value(regs, x)),
+        Operation::Or => logic_word(f, regs, cc, rd, reg(regs, rs1) | value(regs, x)),
+        Operation::Xor => logic_word(f, regs, cc, rd, reg(regs, rs1) ^ value(regs, x)),
         Operation::Sub => subtract_word(f, regs, 0, cc, rd, rs1, x),
-        Operation::Andn => logic_word(
-            f,
-            regs,
-            cc,
-            rd,
-            register(regs, rs1) & complement(value(regs, x)),
-        ),
-        Operation::Orn => logic_word(
-            f,
-            regs,
-            cc,
-            rd,
-            register(regs, rs1) | complement(value(regs, x)),
-        ),
-        Operation::Xnor => logic_word(
-            f,
-            regs,
-            cc,
-            rd,
-            register(regs, rs1) ^ complement(value(regs, x)),
-        ),
+        Operation::Andn => logic_word(f, regs, cc, rd, reg(regs, rs1) & complement(value(regs, x))),
+        Operation::Orn => logic_word(f, regs, cc, rd, reg(regs, rs1) | complement(value(regs, x))),
+        Operation::Xnor => logic_word(f, regs, cc, rd, reg(regs, rs1) ^ complement(value(regs, x))),
         Operation::Addx => add_word(f, regs, carry(f), cc, rd, rs1, x),
         Operation::Subx => subtract_word(f, regs, carry(f), cc, rd, rs1, x),
-        Operation::Sll => logic_word(
-            f,
-            regs,
-            cc,
-            rd,
-            shift_left(register(regs, rs1), value(regs, x)),
-        ),
-        Operation::Srl => logic_word(
-            f,
-            regs,
-            cc,
-            rd,
-            shift_right(register(regs, rs1), value(regs, x)),
-        ),
-        Operation::Sra => logic_word(
-            f,
-            regs,
-            cc,
-            rd,
-            shift_right_signed(register(regs, rs1), value(regs, x)),
-        ),
+        Operation::Sll => logic_word(f, regs, cc, rd, sll(reg(regs, rs1), value(regs, x))),
+        Operation::Srl => logic_word(f, regs, cc, rd, srl(reg(regs, rs1), value(regs, x))),
+        Operation::Sra => logic_word(f, regs, cc, rd, sra(reg(regs, rs1), value(regs, x))),
     }
 }

@@ -12,7 +12,7 @@ ghost use Rattle.machine.specs.DataArea.{loadOf, storeOf, valueAt, putVa
 use crate::End;
 use crate::registers::address;
 use crate::registers::put;
-use crate::registers::register;
+use crate::registers::reg;
 use words::Operand;
 use words::Width;
 
@@ -169,8 +169,8 @@ pub fn store(
     ensures { λ r. ⌜ left (now (area .exit)) r ≡ settle (now (area .entry)) (storeOf w db (registerOf (now (regs .entry)) rd) (addressOf (now (regs .entry)) rs1 x) (now (area .entry))) ⌝ }
 {
     match w {
-        Width::Byte => store_byte(db, register(regs, rd), area, address(regs, rs1, x)),
-        Width::Half => store_half(db, register(regs, rd), area, address(regs, rs1, x)),
-        Width::Word => store_word(db, register(regs, rd), area, address(regs, rs1, x)),
+        Width::Byte => store_byte(db, reg(regs, rd), area, address(regs, rs1, x)),
+        Width::Half => store_half(db, reg(regs, rd), area, address(regs, rs1, x)),
+        Width::Word => store_word(db, reg(regs, rd), area, address(regs, rs1, x)),
     }
 }

@@ -3,16 +3,16 @@ ghost use mathlib.Core.Path.{_≡_};
 ghost use Rattle.machine.specs.Registers.{registerOf, putRegister, valueOf, addressOf};
 use words::Operand;
 
-fn register_at(regs: &[u32; 32], i: usize) -> u32
+fn reg_at(regs: &[u32; 32], i: usize) -> u32
     ensures { λ r. ⌜ r ≡ registerOf (now (regs .entry)) i ⌝ }
 {
     regs[i % 32]
 }
 
-pub fn register(regs: &[u32; 32], i: u32) -> u32
+pub fn reg(regs: &[u32; 32], i: u32) -> u32
     ensures { λ r. ⌜ r ≡ registerOf (now (regs .entry)) i ⌝ }
 {
-    register_at(regs, i as usize)
+    reg_at(regs, i as usize)
 }
 
 pub fn put(regs: &mut [u32; 32], i: u32, v: u32)
@@ -27,7 +27,7 @@ pub fn value(regs: &[u32; 32], x: Operand) -> u32
     ensures { λ r. ⌜ r ≡ valueOf (now (regs .entry)) x ⌝ }
 {
     match x {
-        Operand::Register(i) => register_at(regs, i),
+        Operand::Register(i) => reg_at(regs, i),
         Operand::Constant(k) => k,
     }
 }
@@ -36,5 +36,5 @@ pub fn value(regs: &[u32; 32], x: Operand) -> u32
 pub fn address(regs: &[u32; 32], rs1: u32, x: Operand) -> u32
     ensures { λ r. ⌜ r ≡ addressOf (now (regs .entry)) rs1 x ⌝ }
 {
-    numbers::add(register(regs, rs1), value(regs, x))
+    numbers::add(reg(regs, rs1), value(regs, x))
 }

@@ -4,8 +4,8 @@ use borrow.Author.Needs.{needs}
 use Rattle.machine.proofs.arithmetic.add_word.Statement.{statement}
 use Rattle.machine.proofs.arithmetic.add_word.Tie as tie
 
-register-requires : tie.Need-register-requires
-register-requires c κs = search needs
+reg-requires : tie.Need-reg-requires
+reg-requires c κs = search needs
 
 value-requires : tie.Need-value-requires
 value-requires c κs = search needs
@@ -24,17 +24,17 @@ sum-flags-requires c κs = search needs
 
 returns : tie.Need-returns
 unfolding sumOf
-returns c = rw (c .before .if1 .taken, ← c .before .before .before .before .before .before .before .before .register .ensures, ← c .before .before .before .before .before .before .value .ensures, ← c .before .before .before .before .before .add .ensures, ← c .before .before .before .before .add2 .ensures, ← c .sum-flags .ensures, ← c .before .before .put .ensures)
+returns c = rw (c .before .if1 .taken, ← c .before .before .before .before .before .before .before .before .reg .ensures, ← c .before .before .before .before .before .before .value .ensures, ← c .before .before .before .before .before .add .ensures, ← c .before .before .before .before .add2 .ensures, ← c .sum-flags .ensures, ← c .before .before .put .ensures)
 
 returns-2 : tie.Need-returns-2
 unfolding sumOf
-returns-2 c = rw (c .if1 .left, ← c .before .before .before .before .before .before .before .register .ensures, ← c .before .before .before .before .before .value .ensures, ← c .before .before .before .before .add .ensures, ← c .before .before .before .add2 .ensures, ← c .before .put .ensures)
+returns-2 c = rw (c .if1 .left, ← c .before .before .before .before .before .before .before .reg .ensures, ← c .before .before .before .before .before .value .ensures, ← c .before .before .before .before .add .ensures, ← c .before .before .before .add2 .ensures, ← c .before .put .ensures)
 
 pub add-word-spec : {M : Type 1} → statement M
 add-word-spec =
     tie.close
     (tie.spec
-    register-requires
+    reg-requires
     value-requires
     add-requires
     add-requires-2

@@ -12,8 +12,8 @@ add-word-requires c κs = search needs
 enum-told-2 : tie.Need-enum-told-2
 enum-told-2 c = search needs
 
-register-requires : tie.Need-register-requires
-register-requires c κs = search needs
+reg-requires : tie.Need-reg-requires
+reg-requires c κs = search needs
 
 value-requires : tie.Need-value-requires
 value-requires c κs = search needs
@@ -24,8 +24,8 @@ logic-word-requires c κs = search needs
 enum-told-3 : tie.Need-enum-told-3
 enum-told-3 c = search needs
 
-register-requires-2 : tie.Need-register-requires-2
-register-requires-2 c κs = search needs
+reg-requires-2 : tie.Need-reg-requires-2
+reg-requires-2 c κs = search needs
 
 value-requires-2 : tie.Need-value-requires-2
 value-requires-2 c κs = search needs
@@ -36,8 +36,8 @@ logic-word-requires-2 c κs = search needs
 enum-told-4 : tie.Need-enum-told-4
 enum-told-4 c = search needs
 
-register-requires-3 : tie.Need-register-requires-3
-register-requires-3 c κs = search needs
+reg-requires-3 : tie.Need-reg-requires-3
+reg-requires-3 c κs = search needs
 
 value-requires-3 : tie.Need-value-requires-3
 value-requires-3 c κs = search needs
@@ -54,8 +54,8 @@ subtract-word-requires c κs = search needs
 enum-told-6 : tie.Need-enum-told-6
 enum-told-6 c = search needs
 
-register-requires-4 : tie.Need-register-requires-4
-register-requires-4 c κs = search needs
+reg-requires-4 : tie.Need-reg-requires-4
+reg-requires-4 c κs = search needs
 
 value-requires-4 : tie.Need-value-requires-4
 value-requires-4 c κs = search needs
@@ -69,8 +69,8 @@ logic-word-requires-4 c κs = search needs
 enum-told-7 : tie.Need-enum-told-7
 enum-told-7 c = search needs
 
-register-requires-5 : tie.Need-register-requires-5
-register-requires-5 c κs = search needs
+reg-requires-5 : tie.Need-reg-requires-5
+reg-requires-5 c κs = search needs
 
 value-requires-5 : tie.Need-value-requires-5
 value-requires-5 c κs = search needs
@@ -84,8 +84,8 @@ logic-word-requires-5 c κs = search needs
 enum-told-8 : tie.Need-enum-told-8
 enum-told-8 c = search needs
 
-register-requires-6 : tie.Need-register-requires-6
-register-requires-6 c κs = search needs
+reg-requires-6 : tie.Need-reg-requires-6
+reg-requires-6 c κs = search needs
 
 value-requires-6 : tie.Need-value-requires-6
 value-requires-6 c κs = search needs
@@ -117,14 +117,14 @@ subtract-word-requires-2 c κs = search needs
 enum-told-11 : tie.Need-enum-told-11
 enum-told-11 c = search needs
 
-register-requires-7 : tie.Need-register-requires-7
-register-requires-7 c κs = search needs
+reg-requires-7 : tie.Need-reg-requires-7
+reg-requires-7 c κs = search needs
 
 value-requires-7 : tie.Need-value-requires-7
 value-requires-7 c κs = search needs
 
-shift-left-requires : tie.Need-shift-left-requires
-shift-left-requires c κs = search needs
+sll-requires : tie.Need-sll-requires
+sll-requires c κs = search needs
 
 logic-word-requires-7 : tie.Need-logic-word-requires-7
 logic-word-requires-7 c κs = search needs
@@ -132,14 +132,14 @@ logic-word-requires-7 c κs = search needs
 enum-told-12 : tie.Need-enum-told-12
 enum-told-12 c = search needs
 
-register-requires-8 : tie.Need-register-requires-8
-register-requires-8 c κs = search needs
+reg-requires-8 : tie.Need-reg-requires-8
+reg-requires-8 c κs = search needs
 
 value-requires-8 : tie.Need-value-requires-8
 value-requires-8 c κs = search needs
 
-shift-right-requires : tie.Need-shift-right-requires
-shift-right-requires c κs = search needs
+srl-requires : tie.Need-srl-requires
+srl-requires c κs = search needs
 
 logic-word-requires-8 : tie.Need-logic-word-requires-8
 logic-word-requires-8 c κs = search needs
@@ -147,14 +147,14 @@ logic-word-requires-8 c κs = search needs
 enum-told-13 : tie.Need-enum-told-13
 enum-told-13 c = search needs
 
-register-requires-9 : tie.Need-register-requires-9
-register-requires-9 c κs = search needs
+reg-requires-9 : tie.Need-reg-requires-9
+reg-requires-9 c κs = search needs
 
 value-requires-9 : tie.Need-value-requires-9
 value-requires-9 c κs = search needs
 
-shift-right-signed-requires : tie.Need-shift-right-signed-requires
-shift-right-signed-requires c κs = search needs
+sra-requires : tie.Need-sra-requires
+sra-requires c κs = search needs
 
 logic-word-requires-9 : tie.Need-logic-word-requires-9
 logic-word-requires-9 c κs = search needs
@@ -165,15 +165,15 @@ returns c = rw (c .before .before .enum-told .given .1) (c .add-word .ensures)
 
 returns-2 : tie.Need-returns-2
 unfolding arithmeticOf outcomeOf
-returns-2 c = rw (c .before .before .before .before .before .before .enum-told2 .given .1, ← c .before .before .before .register .ensures, ← c .before .value .ensures) (c .logic-word .ensures)
+returns-2 c = rw (c .before .before .before .before .before .before .enum-told2 .given .1, ← c .before .before .before .reg .ensures, ← c .before .value .ensures) (c .logic-word .ensures)
 
 returns-3 : tie.Need-returns-3
 unfolding arithmeticOf outcomeOf
-returns-3 c = rw (c .before .before .before .before .before .before .enum-told3 .given .1, ← c .before .before .before .register2 .ensures, ← c .before .value2 .ensures) (c .logic-word2 .ensures)
+returns-3 c = rw (c .before .before .before .before .before .before .enum-told3 .given .1, ← c .before .before .before .reg2 .ensures, ← c .before .value2 .ensures) (c .logic-word2 .ensures)
 
 returns-4 : tie.Need-returns-4
 unfolding arithmeticOf outcomeOf
-returns-4 c = rw (c .before .before .before .before .before .before .enum-told4 .given .1, ← c .before .before .before .register3 .ensures, ← c .before .value3 .ensures) (c .logic-word3 .ensures)
+returns-4 c = rw (c .before .before .before .before .before .before .enum-told4 .given .1, ← c .before .before .before .reg3 .ensures, ← c .before .value3 .ensures) (c .logic-word3 .ensures)
 
 returns-5 : tie.Need-returns-5
 unfolding arithmeticOf outcomeOf
@@ -181,15 +181,15 @@ returns-5 c = rw (c .before .before .enum-told5 .given .1) (c .subtract-word .en
 
 returns-6 : tie.Need-returns-6
 unfolding arithmeticOf outcomeOf
-returns-6 c = rw (c .before .before .before .before .before .before .before .enum-told6 .given .1, ← c .before .before .before .before .register4 .ensures, ← c .before .before .value4 .ensures, ← c .before .complement .ensures) (c .logic-word4 .ensures)
+returns-6 c = rw (c .before .before .before .before .before .before .before .enum-told6 .given .1, ← c .before .before .before .before .reg4 .ensures, ← c .before .before .value4 .ensures, ← c .before .complement .ensures) (c .logic-word4 .ensures)
 
 returns-7 : tie.Need-returns-7
 unfolding arithmeticOf outcomeOf
-returns-7 c = rw (c .before .before .before .before .before .before .before .enum-told7 .given .1, ← c .before .before .before .before .register5 .ensures, ← c .before .before .value5 .ensures, ← c .before .complement2 .ensures) (c .logic-word5 .ensures)
+returns-7 c = rw (c .before .before .before .before .before .before .before .enum-told7 .given .1, ← c .before .before .before .before .reg5 .ensures, ← c .before .before .value5 .ensures, ← c .before .complement2 .ensures) (c .logic-word5 .ensures)
 
 returns-8 : tie.Need-returns-8
 unfolding arithmeticOf outcomeOf
-returns-8 c = rw (c .before .before .before .before .before .before .before .enum-told8 .given .1, ← c .before .before .before .before .register6 .ensures, ← c .before .before .value6 .ensures, ← c .before .complement3 .ensures) (c .logic-word6 .ensures)
+returns-8 c = rw (c .before .before .before .before .before .before .before .enum-told8 .given .1, ← c .before .before .before .before .reg6 .ensures, ← c .before .before .value6 .ensures, ← c .before .complement3 .ensures) (c .logic-word6 .ensures)
 
 returns-9 : tie.Need-returns-9
 unfolding arithmeticOf outcomeOf
@@ -201,15 +201,15 @@ returns-10 c = rw (c .before .before .before .enum-told10 .given .1, ← c .befo
 
 returns-11 : tie.Need-returns-11
 unfolding arithmeticOf outcomeOf
-returns-11 c = rw (c .before .before .before .before .before .before .before .enum-told11 .given .1, ← c .before .before .before .before .register7 .ensures, ← c .before .before .value7 .ensures, ← c .before .shift-left .ensures) (c .logic-word7 .ensures)
+returns-11 c = rw (c .before .before .before .before .before .before .before .enum-told11 .given .1, ← c .before .before .before .before .reg7 .ensures, ← c .before .before .value7 .ensures, ← c .before .sll .ensures) (c .logic-word7 .ensures)
 
 returns-12 : tie.Need-returns-12
 unfolding arithmeticOf outcomeOf
-returns-12 c = rw (c .before .before .before .before .before .before .before .enum-told12 .given .1, ← c .before .before .before .before .register8 .ensures, ← c .before .before .value8 .ensures, ← c .before .shift-right .ensures) (c .logic-word8 .ensures)
+returns-12 c = rw (c .before .before .before .before .before .before .before .enum-told12 .given .1, ← c .before .before .before .before .reg8 .ensures, ← c .before .before .value8 .ensures, ← c .before .srl .ensures) (c .logic-word8 .ensures)
 
 returns-13 : tie.Need-returns-13
 unfolding arithmeticOf outcomeOf
-returns-13 c = rw (c .before .before .before .before .before .before .before .enum-told13 .given .1, ← c .before .before .before .before .register9 .ensures, ← c .before .before .value9 .ensures, ← c .before .shift-right-signed .ensures) (c .logic-word9 .ensures)
+returns-13 c = rw (c .before .before .before .before .before .before .before .enum-told13 .given .1, ← c .before .before .before .before .reg9 .ensures, ← c .before .before .value9 .ensures, ← c .before .sra .ensures) (c .logic-word9 .ensures)
 
 pub operate-spec : {M : Type 1} → statement M
 operate-spec =
@@ -218,31 +218,31 @@ operate-spec =
     enum-told
     add-word-requires
     enum-told-2
-    register-requires
+    reg-requires
     value-requires
     logic-word-requires
     enum-told-3
-    register-requires-2
+    reg-requires-2
     value-requires-2
     logic-word-requires-2
     enum-told-4
-    register-requires-3
+    reg-requires-3
     value-requires-3
     logic-word-requires-3
     enum-told-5
     subtract-word-requires
     enum-told-6
-    register-requires-4
+    reg-requires-4
     value-requires-4
     complement-requires
     logic-word-requires-4
     enum-told-7
-    register-requires-5
+    reg-requires-5
     value-requires-5
     complement-requires-2
     logic-word-requires-5
     enum-told-8
-    register-requires-6
+    reg-requires-6
     value-requires-6
     complement-requires-3
     logic-word-requires-6
@@ -253,19 +253,19 @@ operate-spec =
     carry-requires-2
     subtract-word-requires-2
     enum-told-11
-    register-requires-7
+    reg-requires-7
     value-requires-7
-    shift-left-requires
+    sll-requires
     logic-word-requires-7
     enum-told-12
-    register-requires-8
+    reg-requires-8
     value-requires-8
-    shift-right-requires
+    srl-requires
     logic-word-requires-8
     enum-told-13
-    register-requires-9
+    reg-requires-9
     value-requires-9
-    shift-right-signed-requires
+    sra-requires
     logic-word-requires-9
     returns
     returns-2

@@ -4,8 +4,8 @@ use borrow.Author.Needs.{needs}
 use Rattle.machine.proofs.arithmetic.subtract_word.Statement.{statement}
 use Rattle.machine.proofs.arithmetic.subtract_word.Tie as tie
 
-register-requires : tie.Need-register-requires
-register-requires c κs = search needs
+reg-requires : tie.Need-reg-requires
+reg-requires c κs = search needs
 
 value-requires : tie.Need-value-requires
 value-requires c κs = search needs
@@ -24,17 +24,17 @@ difference-flags-requires c κs = search needs
 
 returns : tie.Need-returns
 unfolding differenceOf
-returns c = rw (c .before .if1 .taken, ← c .before .before .before .before .before .before .before .before .register .ensures, ← c .before .before .before .before .before .before .value .ensures, ← c .before .before .before .before .before .subtract .ensures, ← c .before .before .before .before .subtract2 .ensures, ← c .difference-flags .ensures, ← c .before .before .put .ensures)
+returns c = rw (c .before .if1 .taken, ← c .before .before .before .before .before .before .before .before .reg .ensures, ← c .before .before .before .before .before .before .value .ensures, ← c .before .before .before .before .before .subtract .ensures, ← c .before .before .before .before .subtract2 .ensures, ← c .difference-flags .ensures, ← c .before .before .put .ensures)
 
 returns-2 : tie.Need-returns-2
 unfolding differenceOf
-returns-2 c = rw (c .if1 .left, ← c .before .before .before .before .before .before .before .register .ensures, ← c .before .before .before .before .before .value .ensures, ← c .before .before .before .before .subtract .ensures, ← c .before .before .before .subtract2 .ensures, ← c .before .put .ensures)
+returns-2 c = rw (c .if1 .left, ← c .before .before .before .before .before .before .before .reg .ensures, ← c .before .before .before .before .before .value .ensures, ← c .before .before .before .before .subtract .ensures, ← c .before .before .before .subtract2 .ensures, ← c .before .put .ensures)
 
 pub subtract-word-spec : {M : Type 1} → statement M
 subtract-word-spec =
     tie.close
     (tie.spec
-    register-requires
+    reg-requires
     value-requires
     subtract-requires
     subtract-requires-2

@@ -5,8 +5,8 @@ use Rattle.machine.proofs.data_area.store.Tie as tie
 enum-told : tie.Need-enum-told
 enum-told c = search needs
 
-register-requires : tie.Need-register-requires
-register-requires c κs = search needs
+reg-requires : tie.Need-reg-requires
+reg-requires c κs = search needs
 
 address-requires : tie.Need-address-requires
 address-requires c κs = search needs
@@ -17,8 +17,8 @@ store-byte-requires c κs = search needs
 enum-told-2 : tie.Need-enum-told-2
 enum-told-2 c = search needs
 
-register-requires-2 : tie.Need-register-requires-2
-register-requires-2 c κs = search needs
+reg-requires-2 : tie.Need-reg-requires-2
+reg-requires-2 c κs = search needs
 
 address-requires-2 : tie.Need-address-requires-2
 address-requires-2 c κs = search needs
@@ -29,8 +29,8 @@ store-half-requires c κs = search needs
 enum-told-3 : tie.Need-enum-told-3
 enum-told-3 c = search needs
 
-register-requires-3 : tie.Need-register-requires-3
-register-requires-3 c κs = search needs
+reg-requires-3 : tie.Need-reg-requires-3
+reg-requires-3 c κs = search needs
 
 address-requires-3 : tie.Need-address-requires-3
 address-requires-3 c κs = search needs
@@ -42,34 +42,34 @@ same-length : tie.Need-same-length
 same-length c = search needs
 
 returns : tie.Need-returns
-returns c = rw (c .before .before .before .before .before .before .enum-told .given .1, ← c .before .before .before .before .before .register .ensures, ← c .before .before .before .address .ensures) (c .before .before .store-byte .ensures)
+returns c = rw (c .before .before .before .before .before .before .enum-told .given .1, ← c .before .before .before .before .before .reg .ensures, ← c .before .before .before .address .ensures) (c .before .before .store-byte .ensures)
 
 same-length-2 : tie.Need-same-length-2
 same-length-2 c = search needs
 
 returns-2 : tie.Need-returns-2
-returns-2 c = rw (c .before .before .before .before .before .before .enum-told2 .given .1, ← c .before .before .before .before .before .register2 .ensures, ← c .before .before .before .address2 .ensures) (c .before .before .store-half .ensures)
+returns-2 c = rw (c .before .before .before .before .before .before .enum-told2 .given .1, ← c .before .before .before .before .before .reg2 .ensures, ← c .before .before .before .address2 .ensures) (c .before .before .store-half .ensures)
 
 same-length-3 : tie.Need-same-length-3
 same-length-3 c = search needs
 
 returns-3 : tie.Need-returns-3
-returns-3 c = rw (c .before .before .before .before .before .before .enum-told3 .given .1, ← c .before .before .before .before .before .register3 .ensures, ← c .before .before .before .address3 .ensures) (c .before .before .store-word .ensures)
+returns-3 c = rw (c .before .before .before .before .before .before .enum-told3 .given .1, ← c .before .before .before .before .before .reg3 .ensures, ← c .before .before .before .address3 .ensures) (c .before .before .store-word .ensures)
 
 pub store-spec : {M : Type 1} → statement M
 store-spec =
     tie.close
     (tie.spec
     enum-told
-    register-requires
+    reg-requires
     address-requires
     store-byte-requires
     enum-told-2
-    register-requires-2
+    reg-requires-2
     address-requires-2
     store-half-requires
     enum-told-3
-    register-requires-3
+    reg-requires-3
     address-requires-3
     store-word-requires
     same-length

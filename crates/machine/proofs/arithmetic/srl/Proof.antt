@@ -1,7 +1,7 @@
 use Rattle.machine.specs.Arithmetic.{shiftedRight}
 use borrow.Author.Needs.{needs}
-use Rattle.machine.proofs.arithmetic.shift_right.Statement.{statement}
-use Rattle.machine.proofs.arithmetic.shift_right.Tie as tie
+use Rattle.machine.proofs.arithmetic.srl.Statement.{statement}
+use Rattle.machine.proofs.arithmetic.srl.Tie as tie
 
 low5-requires : tie.Need-low5-requires
 low5-requires c κs = search needs
@@ -13,5 +13,5 @@ returns : tie.Need-returns
 unfolding shiftedRight
 returns c = rw (c .low5 .ensures)
 
-pub shift-right-spec : {M : Type 1} → statement M
-shift-right-spec = tie.close (tie.spec low5-requires shr-result returns)
+pub srl-spec : {M : Type 1} → statement M
+srl-spec = tie.close (tie.spec low5-requires shr-result returns)

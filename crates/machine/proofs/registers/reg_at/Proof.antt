@@ -1,8 +1,8 @@
 use mathlib.Core.Path.{refl}
 use Rattle.machine.specs.Registers.{registerOf}
 use borrow.Author.Needs.{needs}
-use Rattle.machine.proofs.registers.register_at.Statement.{statement}
-use Rattle.machine.proofs.registers.register_at.Tie as tie
+use Rattle.machine.proofs.registers.reg_at.Statement.{statement}
+use Rattle.machine.proofs.registers.reg_at.Tie as tie
 
 mul-result : tie.Need-mul-result
 mul-result c = search needs
@@ -14,5 +14,5 @@ returns : tie.Need-returns
 unfolding registerOf
 returns c = refl
 
-pub register-at-spec : {M : Type 1} → statement M
-register-at-spec = tie.close (tie.spec mul-result element-copy-out-result returns)
+pub reg-at-spec : {M : Type 1} → statement M
+reg-at-spec = tie.close (tie.spec mul-result element-copy-out-result returns)

@@ -1,7 +1,7 @@
 use Rattle.machine.specs.Arithmetic.{shiftedLeft}
 use borrow.Author.Needs.{needs}
-use Rattle.machine.proofs.arithmetic.shift_left.Statement.{statement}
-use Rattle.machine.proofs.arithmetic.shift_left.Tie as tie
+use Rattle.machine.proofs.arithmetic.sll.Statement.{statement}
+use Rattle.machine.proofs.arithmetic.sll.Tie as tie
 
 low5-requires : tie.Need-low5-requires
 low5-requires c κs = search needs
@@ -13,5 +13,5 @@ returns : tie.Need-returns
 unfolding shiftedLeft
 returns c = rw (c .low5 .ensures)
 
-pub shift-left-spec : {M : Type 1} → statement M
-shift-left-spec = tie.close (tie.spec low5-requires shl-result returns)
+pub sll-spec : {M : Type 1} → statement M
+sll-spec = tie.close (tie.spec low5-requires shl-result returns)

@@ -1,0 +1,4 @@
+pub mod Run
+pub mod OldCore
+pub mod OldState
+pub mod StateBytes

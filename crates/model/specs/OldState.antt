@@ -1,0 +1,41 @@
+-- The old core's state as a value of the code, over a lent area.
+use Prim.Native.Nat.{ℕ}
+use mathlib.Core.Bool.{Bool, not}
+use mathlib.Core.List.{List}
+use lib.Dec.{eqb}
+use lib.ListN.{set, replicate}
+use Rattle.machine.specs.declared.End.the-variants.{Going}
+use Rattle.machine.specs.Ends.{State, left}
+use Rattle.model.specs.declared.OldControl.{OldControl}
+use Rattle.model.specs.declared.OldCore.{OldCore}
+use Rattle.model.specs.OldCore.{Old, old}
+
+-- "The start values are all registers 0 and all flags clear."
+unfoldable pub startValues : OldCore
+startValues =
+    record {
+      registers = replicate 32 0;
+      control =
+          record {
+            flags = record { nzvc = 0 };
+            pc = record { 0 = 0 };
+            npc = record { 0 = 0 };
+            annul = 0;
+            end = Going;
+          };
+    }
+
+-- any annul but 0 is set
+unfoldable pub isSet : ℕ → Bool
+isSet x = not (eqb x 0)
+
+-- registers, control and data as one state
+abbrev pub oldOf : List ℕ → OldControl → List ℕ → Old
+oldOf rs c a = old (record { registers = rs; flags = c .flags .nzvc; area = a }) (c .pc .0) (c .npc .0) (isSet (c .annul))
+
+abbrev pub oldState : List ℕ → OldControl → List ℕ → State Old
+oldState rs c a = left (oldOf rs c a) (c .end)
+
+-- "Register 0 reads and shows as 0."
+unfoldable pub zeroed : List ℕ → List ℕ
+zeroed rs = set rs 0 0

@@ -1,0 +1,37 @@
+-- States as bytes, numbers big-endian: how a loader in C holds them.
+use Prim.Native.Nat.{ℕ, _%_}
+use mathlib.Core.List.{List, [], _∷_, _++_}
+use Rattle.numbers.specs.Number.{numberAt, numbersOf, bytesOf}
+use Rattle.words.specs.Conditions.{bitOf}
+use Rattle.machine.specs.Ends.{Ending, ending, endingFrom, State, state}
+use Rattle.machine.specs.Effect.{Machine, machine}
+use Rattle.model.specs.OldCore.{Old, old}
+use Rattle.model.specs.OldState.{isSet, zeroed}
+
+-- numbers 0 to 31 are the registers, number 32 the flags, of which the low four bits count
+unfoldable pub machineIn : List ℕ → List ℕ → Machine
+machineIn bytes area = machine (zeroed (numbersOf bytes 32)) (numberAt bytes 128 % 16) area
+
+-- the old core: PC, nPC, annul, end and the number beside it follow
+unfoldable pub oldIn : List ℕ → List ℕ → State Old
+oldIn bytes area =
+    state (old (machineIn bytes area) (numberAt bytes 132) (numberAt bytes 136) (isSet (numberAt bytes 140)))
+    (endingFrom (numberAt bytes 144) (numberAt bytes 148))
+
+-- the bytes of a state: what is in them but the data
+unfoldable pub oldBytes : State Old → List ℕ
+oldBytes (state (old m pc npc annul) (ending n v)) = bytesOf (m .registers ++ (m .flags ∷ pc ∷ npc ∷ bitOf annul ∷ n ∷ v ∷ []))
+
+-- what a call answers, and leaves in the state and in the lent area
+pub record After : Type 0 where
+  pub ended : Ending
+  pub state : List ℕ
+  pub area : List ℕ
+
+abbrev pub after : ℕ → ℕ → List ℕ → List ℕ → After
+after n v bytes area = record { ended = ending n v; state = bytes; area = area }
+
+-- of a state that a run left, over an area whose bytes past the data are `rest`
+unfoldable pub oldAfter : State Old → List ℕ → After
+oldAfter (state (old m pc npc annul) e) rest =
+    record { ended = e; state = oldBytes (state (old m pc npc annul) e); area = m .area ++ rest }

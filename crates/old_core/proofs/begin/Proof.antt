@@ -1,0 +1,19 @@
+use Rattle.machine.specs.Ends.{endingOf}
+use Rattle.model.specs.OldCore.{oldBegun}
+use Rattle.model.specs.OldState.{isSet, zeroed}
+use borrow.Author.Needs.{needs}
+use Rattle.old_core.proofs.begin.Statement.{statement}
+use Rattle.old_core.proofs.begin.Tie as tie
+
+array-write-regs : tie.Need-array-write-regs
+array-write-regs c = search needs
+
+add-requires : tie.Need-add-requires
+add-requires c κs = search needs
+
+returns : tie.Need-returns
+unfolding oldBegun zeroed endingOf isSet
+returns c = λ a. rw (c .add .ensures)
+
+pub begin-spec : {M : Type 1} → statement M
+begin-spec = tie.close (tie.spec array-write-regs add-requires returns)

@@ -1,0 +1,260 @@
+// The old core: SPARC V8 words under PC, nPC and annul, a step at a time.
+ghost use mathlib.Core.Path.{_≡_};
+ghost use Prim.Native.Nat.{ℕ, _%_};
+ghost use mathlib.Core.List.{List};
+ghost use lib.Dec.{eqb};
+ghost use Rattle.numbers.specs.Choice.{pick};
+ghost use Rattle.words.specs.Conditions.{holdsOf};
+ghost use Rattle.machine.specs.Ends.{ending, halt, isGoing, live, left, settle};
+ghost use Rattle.machine.specs.Registers.{addressOf};
+ghost use Rattle.machine.specs.Effect.{machine};
+ghost use Rattle.model.specs.Run.{step, run, dataOf, beyond, lent};
+ghost use Rattle.model.specs.OldCore.{old, wordIn, transferOf, target, follows, branches, jumps, executes, fetches, oldNext, oldBegun};
+ghost use Rattle.model.specs.OldState.{isSet, oldOf, oldState, zeroed};
+use machine::End;
+use machine::Flags;
+use machine::SourcePc;
+use machine::effect::Effect;
+use machine::effect::holds;
+use machine::effect::perform;
+use machine::registers::address;
+use machine::registers::put;
+use model::OldControl;
+use model::OldCore;
+use words::Instruction;
+use words::Operand;
+
+// The run goes on: PC becomes nPC, and nPC the address given.
+fn advance(c: OldControl, f: Flags, next: u32, annul: u32) -> OldControl
+    ensures { λ r. ⌜ ((rs a : List ℕ) → oldState rs r a ≡ live (old (machine rs (f .nzvc) a) (c .npc .0) next (isSet annul))) ⌝ }
+{
+    let p = c.npc;
+    OldControl {
+        flags: f,
+        pc: p,
+        npc: SourcePc(next),
+        annul,
+        end: End::Going,
+    }
+}
+
+// The run goes on with the word after nPC.
+fn follow(c: OldControl, f: Flags) -> OldControl
+    ensures { λ r. ⌜ ((rs a : List ℕ) → oldState rs r a ≡ live (follows (c .npc .0) (machine rs (f .nzvc) a))) ⌝ }
+{
+    let n = c.npc;
+    advance(c, f, numbers::add(n.0, 4), 0)
+}
+
+// The run ends, and nothing else changes.
+fn stop(c: OldControl, e: End) -> OldControl
+    ensures { λ r. ⌜ ((rs a : List ℕ) → oldState rs r a ≡ left (oldOf rs c a) e) ⌝ }
+{
+    let f = c.flags;
+    let p = c.pc;
+    let n = c.npc;
+    OldControl {
+        flags: f,
+        pc: p,
+        npc: n,
+        annul: c.annul,
+        end: e,
+    }
+}
+
+// Where a displacement, which counts words, leads from an address.
+fn target(p: u32, disp: u32) -> u32
+    ensures { λ r. ⌜ r ≡ target p disp ⌝ }
+{
+    numbers::add(p, disp << 2)
+}
+
+fn branch(c: OldControl, cond: u32, annul: bool, disp: u32) -> OldControl
+    ensures { λ r. ⌜ ((rs a : List ℕ) → oldState rs r a ≡ live (branches (holdsOf cond (c .flags .nzvc)) (eqb cond 8) annul (machine rs (c .flags .nzvc) a) (c .npc .0) (target (c .pc .0) disp))) ⌝ }
+{
+    let f = c.flags;
+    let p = c.pc;
+    let n = c.npc;
+    if holds(f, cond) {
+        let t = target(p.0, disp);
+        if cond == 8 {
+            return advance(c, f, t, machine::bit(annul));
+        }
+        return advance(c, f, t, 0);
+    }
+    advance(c, f, numbers::add(n.0, 4), machine::bit(annul))
+}
+
+// The address is taken from the registers before rd is written.
+fn jump(c: OldControl, regs: &mut [u32; 32], rd: u32, rs1: u32, x: Operand) -> OldControl
+    ensures { λ r. ⌜ ((a : List ℕ) → oldState (now (regs .exit)) r a ≡ settle (oldOf (now (regs .entry)) c a) (jumps (addressOf (now (regs .entry)) rs1 x) rd (machine (now (regs .entry)) (c .flags .nzvc) a) (c .pc .0) (c .npc .0))) ⌝ }
+{
+    let f = c.flags;
+    let p = c.pc;
+    let t = address(regs, rs1, x);
+    if t % 4 == 0 {
+        put(regs, rd, p.0);
+        return advance(c, f, t, 0);
+    }
+    stop(c, End::Misaligned(t))
+}
+
+// After a word that does not transfer control: the next word, or the end.
+fn finish(c: OldControl, e: Effect) -> OldControl
+    ensures { λ r. ⌜ ((rs a : List ℕ) → oldState rs r a ≡ pick (isGoing (e .end)) (live (follows (c .npc .0) (machine rs (e .flags .nzvc) a))) (left (oldOf rs c a) (e .end))) ⌝ }
+{
+    let f = e.flags;
+    let g = e.end;
+    if machine::is_going(g) {
+        return follow(c, f);
+    }
+    stop(c, g)
+}
+
+fn execute(
+    i: Instruction,
+    db: u32,
+    regs: &mut [u32; 32],
+    c: OldControl,
+    area: &mut [u8],
+) -> OldControl
+    ensures { λ r. ⌜ oldState (now (regs .exit)) r (now (area .exit)) ≡ settle (oldOf (now (regs .entry)) c (now (area .entry))) (executes db (transferOf i) i (machine (now (regs .entry)) (c .flags .nzvc) (now (area .entry))) (c .pc .0) (c .npc .0)) ⌝ }
+{
+    let f = c.flags;
+    let q = c.pc;
+    let p = q.0;
+    match i {
+        Instruction::Illegal => stop(c, End::IllegalWord(p)),
+        Instruction::Call(disp) => {
+            put(regs, 15, p);
+            advance(c, f, target(p, disp), 0)
+        }
+        Instruction::Bicc(cond, annul, disp) => branch(c, cond, annul, disp),
+        Instruction::Jmpl(rd, rs1, x) => jump(c, regs, rd, rs1, x),
+        _ => finish(c, perform(i, db, regs, f, area)),
+    }
+}
+
+// PC a multiple of 4, PC in the image, known word, its effect.
+fn fetch(
+    image: &[u8],
+    base: u32,
+    db: u32,
+    regs: &mut [u32; 32],
+    c: OldControl,
+    area: &mut [u8],
+) -> OldControl
+    ensures { λ r. ⌜ oldState (now (regs .exit)) r (now (area .exit)) ≡ settle (oldOf (now (regs .entry)) c (now (area .entry))) (pick (eqb (c .pc .0 % 4) 0) (fetches db (wordIn (now (image .entry)) base (c .pc .0)) (machine (now (regs .entry)) (c .flags .nzvc) (now (area .entry))) (c .pc .0) (c .npc .0)) (halt (ending 4 (c .pc .0)))) ⌝ }
+{
+    let q = c.pc;
+    let p = q.0;
+    if p % 4 == 0 {
+        let at = numbers::subtract(p, base) as usize;
+        if at + 4 <= image.len() {
+            let i = words::read_instruction(numbers::read_number(image, at));
+            return execute(i, db, regs, c, area);
+        }
+        return stop(c, End::Outside(p));
+    }
+    stop(c, End::Misaligned(p))
+}
+
+// An annulled word is passed unread.
+fn pass(
+    image: &[u8],
+    base: u32,
+    db: u32,
+    regs: &mut [u32; 32],
+    c: OldControl,
+    area: &mut [u8],
+) -> OldControl
+    ensures { λ r. ⌜ oldState (now (regs .exit)) r (now (area .exit)) ≡ settle (oldOf (now (regs .entry)) c (now (area .entry))) (oldNext (now (image .entry)) base db (oldOf (now (regs .entry)) c (now (area .entry)))) ⌝ }
+{
+    let f = c.flags;
+    if c.annul != 0 {
+        return follow(c, f);
+    }
+    fetch(image, base, db, regs, c, area)
+}
+
+// A step on an ended state changes nothing.
+fn step_on(
+    image: &[u8],
+    base: u32,
+    db: u32,
+    regs: &mut [u32; 32],
+    c: OldControl,
+    area: &mut [u8],
+) -> OldControl
+    ensures { λ r. ⌜ oldState (now (regs .exit)) r (now (area .exit)) ≡ step (oldNext (now (image .entry)) base db) (oldState (now (regs .entry)) c (now (area .entry))) ⌝ }
+{
+    let e = c.end;
+    if machine::is_going(e) {
+        return pass(image, base, db, regs, c, area);
+    }
+    c
+}
+
+fn steps(
+    image: &[u8],
+    base: u32,
+    db: u32,
+    regs: &mut [u32; 32],
+    c: OldControl,
+    area: &mut [u8],
+    count: u16,
+) -> OldControl
+    ensures { λ r. ⌜ oldState (now (regs .exit)) r (now (area .exit)) ≡ run (oldNext (now (image .entry)) base db) count (oldState (now (regs .entry)) c (now (area .entry))) ⌝ }
+{
+    let mut s = c;
+    let mut i: u16 = 0;
+    while i < count {
+        s = step_on(image, base, db, regs, s, area);
+        i += 1;
+    }
+    s
+}
+
+// PC at the address, nPC 4 further, annul clear, not ended; registers and flags stay.
+pub fn begin(core: OldCore, pc: u32) -> OldCore
+    ensures { λ r. ⌜ ((a : List ℕ) → oldState (r .registers) (r .control) a ≡ oldBegun pc (machine (zeroed (core .registers)) (core .control .flags .nzvc) a)) ⌝ }
+{
+    let k = core.control;
+    let f = k.flags;
+    let mut regs = core.registers;
+    regs[0] = 0;
+    let npc = numbers::add(pc, 4);
+    let c = OldControl {
+        flags: f,
+        pc: SourcePc(pc),
+        npc: SourcePc(npc),
+        annul: 0,
+        end: End::Going,
+    };
+    OldCore {
+        registers: regs,
+        control: c,
+    }
+}
+
+// count steps, or fewer where the run ends.
+pub fn run(image: &[u8], base: u32, db: u32, core: OldCore, area: &mut [u8], count: u16) -> OldCore
+    ensures { λ r. ⌜ lent (oldState (r .registers) (r .control) (dataOf (now (area .exit)))) (beyond (now (area .exit))) ≡ lent (run (oldNext (now (image .entry)) base db) count (oldState (zeroed (core .registers)) (core .control) (dataOf (now (area .entry))))) (beyond (now (area .entry))) ⌝ }
+{
+    let c = core.control;
+    let mut regs = core.registers;
+    regs[0] = 0;
+    let n = machine::data_area::data_length(area.len());
+    let k = steps(image, base, db, &mut regs, c, &mut area[..n], count);
+    OldCore {
+        registers: regs,
+        control: k,
+    }
+}
+
+// One step.
+pub fn step(image: &[u8], base: u32, db: u32, core: OldCore, area: &mut [u8]) -> OldCore
+    ensures { λ r. ⌜ lent (oldState (r .registers) (r .control) (dataOf (now (area .exit)))) (beyond (now (area .exit))) ≡ lent (step (oldNext (now (image .entry)) base db) (oldState (zeroed (core .registers)) (core .control) (dataOf (now (area .entry))))) (beyond (now (area .entry))) ⌝ }
+{
+    run(image, base, db, core, area, 1)
+}
