@@ -5,9 +5,9 @@ use mathlib.Core.List.{List, [], _∷_, _++_, append-nil}
 use native.Mathlib.Omega.{arith}
 use native.Mathlib.Nat.{add-zero, sub-zero, mod-eq-of-lt, mod-eq-sub-mod}
 use native.Mathlib.Numerals.{add-one}
-use lib.Seq.{paste, paste-suc, drop-nil, drop-cons, take-suc-set}
+use lib.Seq.{paste, paste-suc, drop-nil, drop-cons, take-suc-set, take-at}
 use lib.Dec.{ltb}
-use lib.ListN.{length, set, take, drop, replicate, length-set, drop-of-length-le, getD}
+use lib.ListN.{length, set, take, drop, replicate, length-set, drop-of-length-le, getD, length-append, length-drop}
 use borrow.Author.Fill.{fill-more}
 use borrow.Author.Tests.{ltb-true, ltb-false}
 use Rattle.numbers.specs.Choice.{pick}
@@ -140,3 +140,20 @@ pub read-more : (bytes list : List ℕ) (i : ℕ) → i < length list → take i
     → take (i + 1) (set list i (numberAt bytes (4 * i))) ≡ numbersOf bytes (i + 1)
 unfolding numbersOf
 read-more bytes list i h e = rw (add-one i, take-suc-set list i (numberAt bytes (4 * i)) h, e)
+
+pub bytes-append : (vs ws : List ℕ) → bytesOf (vs ++ ws) ≡ bytesOf vs ++ bytesOf ws
+unfolding bytesOf
+bytes-append [] ws = refl
+bytes-append (v ∷ vs) ws = rw (bytes-append vs ws)
+
+-- two lists of numbers written one behind the other, over an area that they fill
+pub fill-two : (s s1 s2 vs ws : List ℕ) (n : ℕ) → n ≡ 4 * length vs → length s ≡ n + 4 * length ws
+    → s1 ≡ take 0 s ++ bytesOf vs ++ drop (0 + 4 * length vs) s → s2 ≡ take n s1 ++ bytesOf ws ++ drop (n + 4 * length ws) s1
+    → s2 ≡ bytesOf (vs ++ ws)
+fill-two s s1 s2 vs ws n e l p q =
+    let b : length (bytesOf vs) ≡ n = length-bytes vs ∙ sym e in
+    let z : 0 + 4 * length vs ≡ n = omega arith in
+    let r : s1 ≡ bytesOf vs ++ drop n s = p ∙ rw z in
+    let d : drop (n + 4 * length ws) s1 ≡ [] = drop-of-length-le s1 {i = n + 4 * length ws} (rw r (simp (length-append, length-drop, b) (omega arith))) in
+    let t : take n s1 ≡ bytesOf vs = rw r (take-at (bytesOf vs) (drop n s) n b) in
+    q ∙ rw (d, t, append-nil, bytes-append vs ws)

@@ -1,0 +1,29 @@
+use Rattle.machine.specs.Ends.{State}
+use Rattle.model.specs.Run.{run, dataOf, beyond, lent}
+use Rattle.model.specs.OldCore.{oldNext, Old}
+use Rattle.pijorrel_old.proofs.States.{after-run}
+use mathlib.Core.Path.{ap, _∙_}
+use borrow.Author.Needs.{needs}
+use Rattle.pijorrel_old.proofs.pijorrel_old_run.Statement.{statement}
+use Rattle.pijorrel_old.proofs.pijorrel_old_run.Tie as tie
+
+decode-requires : tie.Need-decode-requires
+decode-requires c κs = search needs
+
+run-requires : tie.Need-run-requires
+run-requires c κs = search needs
+
+encode-requires : tie.Need-encode-requires
+encode-requires c κs = search needs
+
+same-length : tie.Need-same-length
+same-length c = search needs
+
+returns : tie.Need-returns
+returns c = let k = c .before .before .before .before .before .before .before .before .before .before .args in
+    after-run _ _ _ _ _ _ _ _ (c .encode .ensures .0) (c .encode .ensures .1 _)
+    (c .before .before .before .before .run .ensures ∙ ap (λ (x : State Old). lent (run (oldNext (k .image .now) (k .base) (k .db)) (k .count) x) (beyond (k .area .now))) (c .before .before .before .before .before .before .decode .ensures (dataOf (k .area .now))))
+
+pub pijorrel-old-run-spec : {M : Type 1} → statement M
+pijorrel-old-run-spec =
+    tie.close (tie.spec decode-requires run-requires encode-requires same-length returns)

@@ -1,0 +1,86 @@
+// The old core for a loader in C: numbers and byte areas, numbers big-endian. Any bytes are a state.
+ghost use mathlib.Core.Path.{_≡_};
+ghost use mathlib.Core.List.{List, []};
+ghost use Prim.Native.Nat.{ℕ};
+ghost use Rattle.machine.specs.Ends.{ending, endingOf};
+ghost use Rattle.model.specs.Run.{run, dataOf, beyond};
+ghost use Rattle.model.specs.OldCore.{oldNext, oldBegun};
+ghost use Rattle.model.specs.OldState.{oldState, zeroed};
+ghost use Rattle.model.specs.StateBytes.{machineIn, oldIn, oldBytes, after, oldAfter};
+use machine::Ended;
+use machine::Flags;
+use machine::SourcePc;
+use model::OldControl;
+use model::OldCore;
+
+// The state that 152 bytes stand for.
+fn decode(state: &[u8; 152]) -> OldCore
+    ensures { λ r. ⌜ ((a : List ℕ) → oldState (zeroed (r .registers)) (r .control) a ≡ oldIn (now (state .entry)) a) ⌝ }
+{
+    let core = OldCore::new();
+    let mut regs = core.registers;
+    numbers::read_numbers(state, &mut regs);
+    let nzvc = numbers::read_number(state, 128) % 16;
+    let p = SourcePc(numbers::read_number(state, 132));
+    let n = SourcePc(numbers::read_number(state, 136));
+    let a = numbers::read_number(state, 140);
+    let e = machine::end_from(
+        numbers::read_number(state, 144),
+        numbers::read_number(state, 148),
+    );
+    let f = Flags { nzvc };
+    let c = OldControl {
+        flags: f,
+        pc: p,
+        npc: n,
+        annul: a,
+        end: e,
+    };
+    OldCore {
+        registers: regs,
+        control: c,
+    }
+}
+
+// The bytes of a state, and how it ended.
+fn encode(core: OldCore, state: &mut [u8; 152]) -> Ended
+    ensures { λ r. ⌜ (ending (r .end) (r .number) ≡ endingOf (core .control .end)) × ((a : List ℕ) → now (state .exit) ≡ oldBytes (oldState (core .registers) (core .control) a)) ⌝ }
+{
+    let regs = core.registers;
+    let c = core.control;
+    let f = c.flags;
+    let p = c.pc;
+    let n = c.npc;
+    let e = c.end;
+    let r = machine::numbers_of(e);
+    let annul = machine::bit(c.annul != 0);
+    let rest = [f.nzvc, p.0, n.0, annul, r.end, r.number];
+    numbers::write_numbers(state, 0, &regs);
+    numbers::write_numbers(state, 128, &rest);
+    r
+}
+
+// Begins at an address: registers and flags stay.
+#[no_mangle]
+pub extern "C" fn pijorrel_old_begin(pc: u32, state: &mut [u8; 152])
+    ensures { λ _. ⌜ now (state .exit) ≡ oldBytes (oldBegun pc (machineIn (now (state .entry)) [])) ⌝ }
+{
+    let core = old_core::begin(decode(state), pc);
+    let _r = encode(core, state);
+}
+
+// Passes count words, or fewer where the run ends.
+#[no_mangle]
+pub extern "C" fn pijorrel_old_run(
+    image: &[u8],
+    base: u32,
+    db: u32,
+    state: &mut [u8; 152],
+    area: &mut [u8],
+    count: u16,
+) -> Ended
+    ensures { λ r. ⌜ after (r .end) (r .number) (now (state .exit)) (now (area .exit)) ≡ oldAfter (run (oldNext (now (image .entry)) base db) count (oldIn (now (state .entry)) (dataOf (now (area .entry))))) (beyond (now (area .entry))) ⌝ }
+{
+    let core = old_core::run(image, base, db, decode(state), area, count);
+    encode(core, state)
+}
