@@ -2,3 +2,4 @@ pub mod Ends
 pub mod Overflow
 pub mod Loads
 pub mod Effects
+pub mod Zero

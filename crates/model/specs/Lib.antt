@@ -2,3 +2,4 @@ pub mod Run
 pub mod OldCore
 pub mod OldState
 pub mod StateBytes
+pub mod Cases

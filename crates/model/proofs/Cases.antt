@@ -1,0 +1,53 @@
+-- The cases hold: one theorem over the rows of the table.
+use Rattle.machine.specs.DataArea.{sizeOf, loadOf}
+use Rattle.numbers.specs.Number.{plus, minus, signed, numberAt, bytesOf}
+use Rattle.words.specs.Reader.{bits, bitSet, operandOf, format0Of, format2Of, format3Of, byFormat, instructionOf}
+use Rattle.words.specs.Conditions.{rows, bitAt, holdsOf, bitOf, nzvcOf}
+use Rattle.machine.specs.Arithmetic.{top, addOverflow, subOverflow, sumOf, differenceOf, logicOf, outcomeOf, carryOf, arithmeticOf}
+use Rattle.machine.specs.Registers.{registerOf, putRegister, valueOf, addressOf}
+use Rattle.machine.specs.Ends.{within, settle}
+use Rattle.machine.specs.Effect.{trapOf, effectOf}
+use Rattle.model.specs.Cases.{address, addresses, over, start, shown, ended, cases, noCase, Row}
+use Rattle.model.specs.Run.{step, run}
+use Rattle.model.specs.OldCore.{inImage, wordIn, transferOf, target, follows, branches, jumps, executes, fetches, oldNext, oldBegun}
+use Prim.Native.Nat.{ℕ, zero, suc, _<_}
+use mathlib.Core.Path.{_≡_, refl}
+use mathlib.Core.Bool.{Bool, true, false, _&&_, false≢true}
+use mathlib.Core.List.{List, [], _∷_}
+use native.Mathlib.Nat.{le-of-suc-le-suc, not-suc-le-zero}
+use lib.Dec.{eqb}
+use lib.ListN.{length, getD}
+use borrow.Author.Tests.{eqb-true}
+
+abbrev sameList : List ℕ → List ℕ → Bool
+sameList [] [] = true
+sameList [] (y ∷ ys) = false
+sameList (x ∷ xs) [] = false
+sameList (x ∷ xs) (y ∷ ys) = eqb x y && sameList xs ys
+
+both : (a b : Bool) → a && b ≡ true → (a ≡ true) × (b ≡ true)
+both true b e = (refl, e)
+both false b e = absurd (false≢true e)
+
+same-list : (xs ys : List ℕ) → sameList xs ys ≡ true → xs ≡ ys
+same-list [] [] e = refl
+same-list [] (y ∷ ys) e = absurd (false≢true e)
+same-list (x ∷ xs) [] e = absurd (false≢true e)
+same-list (x ∷ xs) (y ∷ ys) e =
+    let t = both (eqb x y) (sameList xs ys) e in
+    let p : x ≡ y = eqb-true x y (t .0) in
+    let q : xs ≡ ys = same-list xs ys (t .1) in
+    cc
+
+abbrev allSame : List Row → Bool
+allSame [] = true
+allSame (r ∷ rs) = sameList (r .got) (r .want) && allSame rs
+
+each-row : (rs : List Row) → allSame rs ≡ true → (i : ℕ) → i < length rs → getD rs i noCase .got ≡ getD rs i noCase .want
+each-row [] e i h = absurd (not-suc-le-zero h)
+each-row (r ∷ rs) e zero h = same-list (r .got) (r .want) (both (sameList (r .got) (r .want)) (allSame rs) e .0)
+each-row (r ∷ rs) e (suc i) h = each-row rs (both (sameList (r .got) (r .want)) (allSame rs) e .1) i (le-of-suc-le-suc h)
+
+pub cases-hold : (i : ℕ) → i < length cases → getD cases i noCase .got ≡ getD cases i noCase .want
+unfolding cases address addresses over start shown ended step run oldNext oldBegun fetches executes jumps branches follows target transferOf wordIn inImage settle within effectOf arithmeticOf outcomeOf sumOf differenceOf logicOf carryOf top addOverflow subOverflow trapOf loadOf sizeOf registerOf putRegister valueOf addressOf holdsOf rows bitAt nzvcOf bitOf instructionOf byFormat format0Of format2Of format3Of operandOf bits bitSet signed plus minus numberAt bytesOf
+cases-hold = each-row cases refl

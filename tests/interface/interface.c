@@ -1,0 +1,145 @@
+/* The C interface as a loader meets it: bad input, edges of the areas, bytes around them. C and C++. */
+#include "pijorrel.h"
+
+#include <stdio.h>
+#include <string.h>
+
+enum { GUARD = 16, FLAGS = 32, PC = 33, NPC = 34, ANNUL = 35, END = 36, NUMBER = 37 };
+
+static int checks, failures;
+
+#define CHECK(fact) check((fact), #fact, __LINE__)
+
+static void check(int fact, const char *text, int line)
+{
+    checks++;
+    if (!fact) {
+        failures++;
+        printf("line %d does not hold: %s\n", line, text);
+    }
+}
+
+static uint32_t number_at(const uint8_t *bytes, int k)
+{
+    const uint8_t *at = bytes + 4 * k;
+    return (uint32_t)at[0] << 24 | (uint32_t)at[1] << 16 | (uint32_t)at[2] << 8 | at[3];
+}
+
+static void put_number(uint8_t *bytes, int k, uint32_t v)
+{
+    for (int i = 0; i < 4; i++)
+        bytes[4 * k + i] = (uint8_t)(v >> (24 - 8 * i));
+}
+
+/* A state with guard bytes on both sides. */
+struct guarded {
+    uint8_t before[GUARD];
+    uint8_t state[PIJORREL_OLD_STATE];
+    uint8_t after[GUARD];
+};
+
+static struct guarded fresh(uint32_t pc)
+{
+    struct guarded g;
+    memset(&g, 0xA5, sizeof g);
+    memset(g.state, 0, sizeof g.state);
+    pijorrel_old_begin(pc, g.state);
+    return g;
+}
+
+static int guards_stand(const struct guarded *g)
+{
+    for (int i = 0; i < GUARD; i++)
+        if (g->before[i] != 0xA5 || g->after[i] != 0xA5)
+            return 0;
+    return 1;
+}
+
+/* 01's case P2: a branch in the delay slot of a branch. */
+static void couple_of_branches(void)
+{
+    static const uint32_t words[] = { 0x10800004, 0x10800005, 0, 0, 0x82006001, 0, 0x91D02000 };
+    uint8_t image[28];
+    struct guarded g = fresh(0);
+    for (int i = 0; i < 7; i++)
+        put_number(image, i, words[i]);
+    struct pijorrel_end end = pijorrel_old_run(image, sizeof image, 0, 0, g.state, NULL, 0, 65535);
+    CHECK(end.end == 1 && end.number == 0);
+    CHECK(number_at(g.state, 1) == 1);
+    CHECK(number_at(g.state, PC) == 24);
+    CHECK(guards_stand(&g));
+    uint8_t kept[PIJORREL_OLD_STATE];
+    memcpy(kept, g.state, sizeof kept);
+    end = pijorrel_old_run(image, sizeof image, 0, 0, g.state, NULL, 0, 9);
+    CHECK(end.end == 1 && memcmp(kept, g.state, sizeof kept) == 0); /* an ended state stays */
+}
+
+static void bad_places(void)
+{
+    struct guarded g = fresh(4);
+    struct pijorrel_end end = pijorrel_old_run(NULL, 0, 0, 0, g.state, NULL, 0, 1);
+    CHECK(end.end == 2 && end.number == 4); /* an empty image */
+    g = fresh(6);
+    end = pijorrel_old_run(NULL, 0, 0, 0, g.state, NULL, 0, 1);
+    CHECK(end.end == 4 && end.number == 6); /* alignment comes first */
+    const uint8_t illegal[4] = { 0, 0, 0, 0 };
+    g = fresh(0xFFFFFFFC);
+    end = pijorrel_old_run(illegal, 4, 0xFFFFFFFC, 0, g.state, NULL, 0, 1);
+    CHECK(end.end == 3 && end.number == 0xFFFFFFFC); /* an image at the top of the addresses */
+    CHECK(guards_stand(&g));
+}
+
+/* Any bytes are a state; a run of no steps leaves it in normal form. */
+static void any_state(void)
+{
+    struct guarded g = fresh(0);
+    memset(g.state, 0xFF, sizeof g.state);
+    struct pijorrel_end end = pijorrel_old_run(NULL, 0, 0, 0, g.state, NULL, 0, 0);
+    CHECK(end.end == 0 && end.number == 0);
+    CHECK(number_at(g.state, 0) == 0 && number_at(g.state, 31) == 0xFFFFFFFF);
+    CHECK(number_at(g.state, FLAGS) == 15 && number_at(g.state, ANNUL) == 1);
+    CHECK(number_at(g.state, END) == 0 && number_at(g.state, NUMBER) == 0);
+    put_number(g.state, END, 7);
+    put_number(g.state, NUMBER, 99);
+    end = pijorrel_old_run(NULL, 0, 0, 0, g.state, NULL, 0, 5);
+    CHECK(end.end == 7 && end.number == 99);
+    pijorrel_old_begin(0xFFFFFFFE, g.state);
+    CHECK(number_at(g.state, PC) == 0xFFFFFFFE && number_at(g.state, NPC) == 2);
+    CHECK(number_at(g.state, ANNUL) == 0 && number_at(g.state, END) == 0 && number_at(g.state, NUMBER) == 0);
+    CHECK(number_at(g.state, 31) == 0xFFFFFFFF && number_at(g.state, FLAGS) == 15);
+    CHECK(guards_stand(&g));
+}
+
+/* st %g0, [%g1 + 0]; of a lent area the first 65,536 bytes are data. */
+static void data_edges(void)
+{
+    static uint8_t area[65536 + 4 + GUARD];
+    const uint8_t store[4] = { 0xC0, 0x20, 0x60, 0x00 };
+    struct guarded g = fresh(0);
+    memset(area, 0xA5, sizeof area);
+    put_number(g.state, 1, 65532);
+    struct pijorrel_end end = pijorrel_old_run(store, 4, 0, 0, g.state, area, 65540, 1);
+    CHECK(end.end == 0 && area[65531] == 0xA5 && area[65532] == 0 && area[65535] == 0 && area[65536] == 0xA5);
+    g = fresh(0);
+    put_number(g.state, 1, 65536);
+    end = pijorrel_old_run(store, 4, 0, 0, g.state, area, 65540, 1);
+    CHECK(end.end == 5 && end.number == 65536 && area[65536] == 0xA5);
+    g = fresh(0);
+    put_number(g.state, 1, 65534);
+    end = pijorrel_old_run(store, 4, 0, 0, g.state, area, 65535, 1);
+    CHECK(end.end == 4 && end.number == 65534); /* neither aligned nor inside */
+    g = fresh(0);
+    end = pijorrel_old_run(store, 4, 0, 0, g.state, NULL, 0, 1);
+    CHECK(end.end == 5 && end.number == 0);
+    CHECK(guards_stand(&g));
+}
+
+int main(void)
+{
+    couple_of_branches();
+    bad_places();
+    any_state();
+    data_edges();
+    printf("%d of %d checks of the C interface hold\n", checks - failures, checks);
+    return failures != 0;
+}
