@@ -11,7 +11,7 @@ use Rattle.machine.specs.DataArea.{sizeOf, putValue, loadedAt, access, l
 use lib.ListN.{length}
 use lib.Dec.{eqb, leb}
 use native.Mathlib.Omega.{arith}
-use mathlib.Core.Bool.{Bool}
+use mathlib.Core.Bool.{Bool, false}
 use Rattle.words.specs.declared.Instruction.the-variants.{Illegal, Call, Sethi, Bicc, Arithmetic, Jmpl, Ticc, Load, Store}
 use Rattle.words.specs.declared.Instruction.{Instruction}
 use Rattle.machine.specs.Ends.{live, settle, ending, go, halt}
@@ -38,6 +38,10 @@ idle db (Arithmetic o cc rd rs1 x) m k = absurd (miss transfers 4 tt k)
 idle db (Ticc cond rs1 x) m k = absurd (miss transfers 6 tt k)
 idle db (Load w sign rd rs1 x) m k = absurd (miss transfers 7 tt k)
 idle db (Store w rd rs1 x) m k = absurd (miss transfers 8 tt k)
+
+-- 01: "Alignment is tested before fit": a misaligned address ends the run with 4, whether the access fits or not
+pub misaligned-first : (w : Width) (db t : ℕ) (area made : List ℕ) → eqb (t % sizeOf w) 0 ≡ false → access w db t area made ≡ halt (ending 4 t)
+misaligned-first w db t area made h = rw h
 
 -- a word ends a run with 1, 4 or 5 alone
 access-ends : (w : Width) (db t : ℕ) (area made : List ℕ) → EndsWell (access w db t area made)

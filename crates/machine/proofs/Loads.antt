@@ -1,16 +1,14 @@
 -- Laws of loads.
-use Rattle.words.specs.declared.Width.{Width}
-use Rattle.machine.specs.Ends.{ending, halt}
 use Rattle.numbers.proofs.Choice.{by-test}
 use Rattle.numbers.specs.Number.{minus, signed}
 use Rattle.words.specs.declared.Width.the-variants.{Word}
-use Rattle.machine.specs.DataArea.{sizeOf, valueAt, loadedAt, loadOf, access}
-use lib.Dec.{ltb, eqb}
+use Rattle.machine.specs.DataArea.{sizeOf, valueAt, loadedAt, loadOf}
+use lib.Dec.{ltb}
 use native.Mathlib.Omega.{arith}
 use mathlib.Core.List.{List}
 use mathlib.Core.Bool.{Bool, true, false}
 use mathlib.Core.Path.{_≡_, refl, sym}
-use Prim.Native.Nat.{ℕ, _+_, _-_, _^_, _%_}
+use Prim.Native.Nat.{ℕ, _+_, _-_, _^_}
 
 -- a word has no sign to extend
 whole : (v : ℕ) → signed 32 v ≡ v
@@ -21,7 +19,3 @@ pub word-unsigned : (sign : Bool) (db : ℕ) (area : List ℕ) (rd t : ℕ) (rs 
 unfolding loadOf loadedAt sizeOf
 word-unsigned true db area rd t rs = rw (whole (valueAt Word area (minus t db)))
 word-unsigned false db area rd t rs = refl
-
--- 01: "Alignment is tested before fit": a misaligned address ends the run with 4, whether the access fits or not
-pub misaligned-first : (w : Width) (db t : ℕ) (area made : List ℕ) → eqb (t % sizeOf w) 0 ≡ false → access w db t area made ≡ halt (ending 4 t)
-misaligned-first w db t area made h = rw h

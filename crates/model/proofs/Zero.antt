@@ -11,7 +11,7 @@ use Rattle.machine.specs.Registers.{putRegister, addressOf}
 use Rattle.machine.specs.Ends.{settle, Next, State, ending, go, halt, state}
 use Rattle.machine.specs.Effect.{withRegisters, effectOf, Machine}
 use Rattle.model.specs.Run.{step, run}
-use Rattle.model.specs.OldCore.{wordIn, transferOf, target, follows, branches, jumps, executes, fetches, oldNext, Old, Transfer, old, illegal, straight, ticc, call, bicc, jmpl}
+use Rattle.model.specs.OldCore.{wordIn, transferOf, target, follows, branches, jumps, executes, fetches, oldNext, Old, Transfer, old, illegal, straight, call, bicc, jmpl, trap}
 use lib.Dec.{eqb}
 use mathlib.Core.Option.{Option, none, some}
 use mathlib.Core.List.{List}
@@ -44,7 +44,7 @@ executes-zero : (db : ℕ) (t : Transfer) (i : Instruction) (m : Machine) (pc np
 unfolding executes
 executes-zero db illegal i m pc npc z = tt
 executes-zero db straight i m pc npc z = onward-within ZeroIn ZeroOld (follows npc) (follows-zero npc) (effectOf db i m) (effects-zero db i m z)
-executes-zero db (ticc cond) i m pc npc z = onward-within ZeroIn ZeroOld (follows npc) (follows-zero npc) (effectOf db i m) (effects-zero db i m z)
+executes-zero db trap i m pc npc z = onward-within ZeroIn ZeroOld (follows npc) (follows-zero npc) (effectOf db i m) (effects-zero db i m z)
 executes-zero db (call disp) i m pc npc z = put-zero (m .registers) 15 pc
 executes-zero db (bicc cond annul disp) i m pc npc z = branches-zero (holdsOf cond (m .flags)) (eqb cond 8) annul m npc (target pc disp) z
 executes-zero db (jmpl rd rs1 x) i m pc npc z = jumps-zero (addressOf (m .registers) rs1 x) rd m pc npc

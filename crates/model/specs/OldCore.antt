@@ -30,9 +30,8 @@ wordIn image base p = pick (inImage base (length image) p) (some (numberAt image
 
 -- what a word does to control: nothing, or one of the ways that 01 tells apart
 pub data Transfer : Type 0 where
-  illegal straight : Transfer
-  -- condition
-  ticc : ℕ → Transfer
+  -- straight: none; trap: a Ticc 8, which is always taken
+  illegal straight trap : Transfer
   -- displacement, in words
   call : ℕ → Transfer
   -- condition, annul bit, displacement
@@ -47,7 +46,7 @@ transferOf (Sethi rd imm) = straight
 transferOf (Bicc cond annul disp) = bicc cond annul disp
 transferOf (Arithmetic o cc rd rs1 x) = straight
 transferOf (Jmpl rd rs1 x) = jmpl rd rs1 x
-transferOf (Ticc cond rs1 x) = ticc cond
+transferOf (Ticc cond rs1 x) = pick (eqb cond 8) trap straight
 transferOf (Load w sign rd rs1 x) = straight
 transferOf (Store w rd rs1 x) = straight
 
@@ -74,7 +73,7 @@ jumps t rd m pc npc =
 unfoldable pub executes : ℕ → Transfer → Instruction → Machine → ℕ → ℕ → Next Old
 executes db illegal i m pc npc = halt (ending 3 pc)
 executes db straight i m pc npc = within (follows npc) (effectOf db i m)
-executes db (ticc cond) i m pc npc = within (follows npc) (effectOf db i m)
+executes db trap i m pc npc = within (follows npc) (effectOf db i m)
 executes db (call disp) i m pc npc = go (old (withRegisters m (putRegister (m .registers) 15 pc)) npc (target pc disp) false)
 executes db (bicc cond annul disp) i m pc npc =
     go (branches (holdsOf cond (m .flags)) (eqb cond 8) annul m npc (target pc disp))

@@ -14,7 +14,7 @@ use Rattle.machine.specs.declared.End.{End}
 use Rattle.machine.proofs.Ends.{going-of, over-of, EndsWell}
 use Rattle.machine.specs.Ends.{endingOf, isGoing, within, live, left, settle, Ending, Next, ending, go, halt, state}
 use Rattle.machine.specs.Effect.{machine, effectOf, Machine}
-use Rattle.model.specs.OldCore.{transferOf, follows, executes, old, target, branches, wordIn, fetches, oldNext}
+use Rattle.model.specs.OldCore.{transferOf, follows, executes, old, target, branches, wordIn, fetches, oldNext, straight, trap}
 use Rattle.model.specs.OldState.{isSet}
 use denote.Enum.Declared.{tagOf}
 use types.Run.{OneOf, miss}
@@ -65,7 +65,11 @@ no-transfer db (Bicc cond annul disp) m pc npc k = absurd (miss others 3 tt k)
 no-transfer db (Jmpl rd rs1 x) m pc npc k = absurd (miss others 5 tt k)
 no-transfer db (Sethi rd imm) m pc npc k = refl
 no-transfer db (Arithmetic o cc rd rs1 x) m pc npc k = refl
-no-transfer db (Ticc cond rs1 x) m pc npc k = refl
+no-transfer db (Ticc cond rs1 x) m pc npc k = either-way (eqb cond 8)
+  where
+    either-way : (b : Bool) → executes db (pick b trap straight) (Ticc cond rs1 x) m pc npc ≡ within (follows npc) (effectOf db (Ticc cond rs1 x) m)
+    either-way true = refl
+    either-way false = refl
 no-transfer db (Load w sign rd rs1 x) m pc npc k = refl
 no-transfer db (Store w rd rs1 x) m pc npc k = refl
 

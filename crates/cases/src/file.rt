@@ -1,0 +1,105 @@
+// Files of cases: numbers of four bytes, big-endian, and byte areas padded to a multiple of four.
+ghost use mathlib.Core.Path.{_≡_};
+ghost use Prim.Native.Nat.{_+_, _*_, _/_, _≤_, _<_, _^_, min};
+ghost use lib.Dec.{leb};
+ghost use lib.ListN.{length, take, drop};
+ghost use Rattle.numbers.specs.Choice.{pick};
+ghost use Rattle.numbers.specs.Number.{numberAt};
+
+// What is found of a case: where the next one starts, how many of its entries agree before one that does not, and whether all agrees,
+// with what is no entry, as the data after the last.
+pub struct Found {
+    pub next: usize,
+    pub entries: u32,
+    pub agrees: bool,
+}
+
+// Where the parts of a case start, and how many bytes its image (extent) and its data (size) have.
+pub struct Parts {
+    pub image: usize,
+    pub extent: usize,
+    pub before: usize,
+    pub size: usize,
+    pub known: usize,
+    pub after: usize,
+    pub next: usize,
+}
+
+// Reads a file into a buffer, and answers how many bytes it has.
+pub fn load(path: &[u8], buffer: &mut [u8]) -> usize
+    ensures { λ r. ⌜ r ≤ length (now (buffer .exit)) ⌝ }
+{
+    let fd = os::open_read(path);
+    if fd < 0 {
+        os::fail(path);
+        return 0;
+    }
+    let n = io::read_full(fd, buffer);
+    libc::close(fd);
+    n
+}
+
+// The number at a position, or 0 where the file is shorter.
+pub fn number(bytes: &[u8], at: usize) -> u32
+    ensures { λ r. ⌜ r ≡ pick (leb (at + 4) (length (now (bytes .entry)))) (numberAt (now (bytes .entry)) at) 0 ⌝ }
+{
+    if at <= bytes.len() {
+        if 4 <= bytes.len() - at {
+            return numbers::read_number(bytes, at);
+        }
+    }
+    0
+}
+
+// The bytes that an area takes in the file.
+pub fn padded(n: u32) -> usize
+    ensures { λ r. ⌜ r ≡ (n + 3) / 4 * 4 ⌝ }
+{
+    (n as usize + 3) / 4 * 4
+}
+
+pub fn least(a: usize, b: usize) -> usize
+    ensures { λ r. ⌜ r ≡ min a b ⌝ }
+{
+    if a < b { a } else { b }
+}
+
+// As many bytes from a position on as are asked for, or fewer where the file is shorter.
+pub fn part(bytes: &[u8], start: usize, n: usize) -> &[u8]
+    ensures { λ r. ⌜ now r ≡ take n (drop start (now (bytes .entry))) ⌝ }
+{
+    let a = least(start, bytes.len());
+    let e = a + least(n, bytes.len() - a);
+    &bytes[a..e]
+}
+
+// Copies as many bytes as both have.
+pub fn copy(to: &mut [u8], from: &[u8]) {
+    let mut i: usize = 0;
+    while i < least(to.len(), from.len()) {
+        to[i] = from[i];
+        i += 1;
+    }
+}
+
+// The parts of the case at a position: six numbers, a state of 152 bytes, an image, data, so many bytes of answers, data.
+pub fn locate(bytes: &[u8], at: usize, answers: usize) -> Parts
+    requires { ⌜ (at ≤ length (now bytes) + 4) × (answers < 2 ^ 40) ⌝ }
+    ensures { λ r. ⌜ (r .image ≡ at + 176) × (r .before ≡ r .image + (r .extent + 3) / 4 * 4) × (r .known ≡ r .before + (r .size + 3) / 4 * 4) × (r .after ≡ r .known + answers) × (r .next ≡ r .after + (r .size + 3) / 4 * 4) ⌝ }
+{
+    let extent = number(bytes, at + 4);
+    let size = number(bytes, at + 16);
+    let image = at + 176;
+    let before = image + padded(extent);
+    let known = before + padded(size);
+    let after = known + answers;
+    Parts {
+        image,
+        extent: extent as usize,
+        before,
+        size: size as usize,
+        known,
+        after,
+        next: after + padded(size),
+    }
+}

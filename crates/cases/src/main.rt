@@ -1,0 +1,110 @@
+// Runs the library on files of cases with known answers, and says how many agree and which do not.
+ghost use mathlib.Core.Path.{_≡_};
+ghost use Prim.Native.Nat.{_+_, _≤_};
+ghost use lib.ListN.{length};
+use file::Found;
+use libc::STDOUT_FILENO;
+
+mod file;
+mod old;
+mod trail;
+
+// The most bytes of a file that are read.
+const LARGEST: usize = 1048576;
+
+// What the cases of a file are.
+enum Kind {
+    Old,
+    Trail,
+}
+
+fn say(text: &[u8]) {
+    io::write_all(STDOUT_FILENO, text);
+}
+
+fn say_number(n: u64) {
+    io::print_decimal(STDOUT_FILENO, n);
+}
+
+fn say_case(name: &[u8], k: u32) {
+    say(name);
+    say(b": case ");
+    say_number(k as u64);
+}
+
+// Zeros for a case's data, which may be more than the 65,536 bytes that exist.
+fn space() -> [u8; 65552]
+    ensures { λ r. ⌜ 65552 ≡ length r ⌝ }
+{
+    [0; 65552]
+}
+
+// Runs the case at a position. A case with data that do not fit the area differs.
+fn check(kind: Kind, bytes: &[u8], at: usize) -> Found
+    requires { ⌜ at ≤ length (now bytes) + 4 ⌝ }
+{
+    let mut zeros = space();
+    let n = file::least(file::number(bytes, at + 16) as usize, zeros.len());
+    let area = &mut zeros[..n];
+    match kind {
+        Kind::Old => old::check(bytes, at, area),
+        Kind::Trail => trail::check(bytes, at, area),
+    }
+}
+
+// Runs the cases of a file, reports those that differ or are cut off, and answers how many entries agree.
+fn agreeing(kind: Kind, name: &[u8], bytes: &[u8]) -> u64 {
+    let count = file::number(bytes, 0);
+    let mut entries: u64 = 0;
+    let mut at: usize = 4;
+    let mut k: u32 = 0;
+    while k < count {
+        let found = check(kind, bytes, at);
+        at = found.next;
+        if bytes.len() < at {
+            say_case(name, k);
+            say(b" is cut off\n");
+            return entries;
+        }
+        if !found.agrees {
+            say_case(name, k);
+            say(b" differs at entry ");
+            say_number(found.entries as u64);
+            say(b"\n");
+        }
+        entries += found.entries as u64;
+        k += 1;
+    }
+    entries
+}
+
+// Runs a file, and says how many entries of how many cases agree, with the words that go between and after.
+fn run(kind: Kind, name: &[u8], buffer: &mut [u8; LARGEST], between: &[u8], after: &[u8]) {
+    let n = file::load(name, buffer);
+    let bytes = file::part(buffer, 0, n);
+    let entries = agreeing(kind, name, bytes);
+    say(name);
+    say(b": ");
+    say_number(entries);
+    say(between);
+    say_number(file::number(bytes, 0) as u64);
+    say(after);
+}
+
+fn main() {
+    let mut buffer = [0u8; LARGEST];
+    run(
+        Kind::Old,
+        b"old_core.bin",
+        &mut buffer,
+        b" of ",
+        b" agree\n",
+    );
+    run(
+        Kind::Trail,
+        b"trails.bin",
+        &mut buffer,
+        b" entries of ",
+        b" programs agree\n",
+    );
+}

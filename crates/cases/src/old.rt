@@ -1,0 +1,43 @@
+// A case of the old core: a state, an image and data, and the state and the data after a run of a given count.
+ghost use Prim.Native.Nat.{_+_, _≤_};
+ghost use lib.ListN.{length};
+use crate::file::Found;
+use crate::file::copy;
+use crate::file::locate;
+use crate::file::number;
+use crate::file::part;
+use machine::Ended;
+
+// What a case starts with.
+const TAG: u32 = 0x4F4C4443;
+
+// Whether a run ended in the known state.
+fn ended_in(known: &[u8], state: &[u8; 152], r: Ended) -> bool {
+    check::same(state, known) && r.end == number(known, 144) && r.number == number(known, 148)
+}
+
+// Runs the case that starts at a position, in a data area of its size. It has one entry.
+pub fn check(bytes: &[u8], at: usize, area: &mut [u8]) -> Found
+    requires { ⌜ at ≤ length (now bytes) + 4 ⌝ }
+{
+    let p = locate(bytes, at, 152);
+    let mut state = [0u8; 152];
+    copy(&mut state, part(bytes, at + 24, 152));
+    copy(area, part(bytes, p.before, p.size));
+    let r = pijorrel_old::pijorrel_old_run(
+        part(bytes, p.image, p.extent),
+        number(bytes, at + 8),
+        number(bytes, at + 12),
+        &mut state,
+        area,
+        (number(bytes, at + 20) % 65536) as u16,
+    );
+    let agrees = number(bytes, at) == TAG
+        && ended_in(part(bytes, p.known, 152), &state, r)
+        && check::same(area, part(bytes, p.after, p.size));
+    Found {
+        next: p.next,
+        entries: agrees as u32,
+        agrees,
+    }
+}

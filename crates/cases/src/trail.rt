@@ -1,0 +1,91 @@
+// A trail: a program, and what another emulator of the machine held before each word that it executed.
+ghost use Prim.Native.Nat.{_+_, _≤_};
+ghost use lib.ListN.{length};
+use crate::file::Found;
+use crate::file::copy;
+use crate::file::locate;
+use crate::file::number;
+use crate::file::part;
+
+// What a program starts with.
+const TAG: u32 = 0x5452414C;
+
+// The bytes of an entry: address, registers and flags.
+const ENTRY: usize = 136;
+
+// Whether a state that has not ended is the one that an entry recorded.
+fn stands_at(state: &[u8], entry: &[u8]) -> bool {
+    if number(state, 144) != 0 {
+        return false;
+    }
+    if number(state, 132) != number(entry, 0) {
+        return false;
+    }
+    check::same(part(state, 0, 132), part(entry, 4, 132))
+}
+
+// Compares a state with an entry and passes the entry's word. An annulled word before it has no entry.
+fn pass(
+    image: &[u8],
+    base: u32,
+    db: u32,
+    state: &mut [u8; 152],
+    area: &mut [u8],
+    entry: &[u8],
+) -> bool {
+    let annulled = (number(state, 140) != 0) as u16;
+    pijorrel_old::pijorrel_old_run(image, base, db, state, area, annulled);
+    let same = stands_at(state, entry);
+    pijorrel_old::pijorrel_old_run(image, base, db, state, area, 1);
+    same
+}
+
+// How many entries agree before the first that does not.
+fn follow(
+    image: &[u8],
+    base: u32,
+    db: u32,
+    state: &mut [u8; 152],
+    area: &mut [u8],
+    entries: &[u8],
+    count: u32,
+) -> u32 {
+    let mut k: u32 = 0;
+    while k < count {
+        let entry = part(entries, k as usize * ENTRY, ENTRY);
+        if !pass(image, base, db, state, area, entry) {
+            return k;
+        }
+        k += 1;
+    }
+    k
+}
+
+// Follows the program that starts at a position, in a data area of its size.
+pub fn check(bytes: &[u8], at: usize, area: &mut [u8]) -> Found
+    requires { ⌜ at ≤ length (now bytes) + 4 ⌝ }
+{
+    let count = number(bytes, at + 20);
+    let answers = count as usize * ENTRY;
+    let p = locate(bytes, at, answers);
+    let mut state = [0u8; 152];
+    copy(&mut state, part(bytes, at + 24, 152));
+    copy(area, part(bytes, p.before, p.size));
+    let entries = follow(
+        part(bytes, p.image, p.extent),
+        number(bytes, at + 8),
+        number(bytes, at + 12),
+        &mut state,
+        area,
+        part(bytes, p.known, answers),
+        count,
+    );
+    let agrees = number(bytes, at) == TAG
+        && entries == count
+        && check::same(area, part(bytes, p.after, p.size));
+    Found {
+        next: p.next,
+        entries,
+        agrees,
+    }
+}
