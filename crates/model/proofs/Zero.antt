@@ -31,10 +31,10 @@ jumps-zero t rd m pc npc =
     (put-zero (m .registers) rd pc)
     tt
 
-branches-zero : (holds always annul : Bool) (m : Machine) (npc t : ℕ) → ZeroIn m → ZeroOld (branches holds always annul m npc t)
+branches-zero : (holds eight annul : Bool) (m : Machine) (npc t : ℕ) → ZeroIn m → ZeroOld (branches holds eight annul m npc t)
 unfolding branches
-branches-zero true always annul m npc t z = z
-branches-zero false always annul m npc t z = z
+branches-zero true eight annul m npc t z = z
+branches-zero false eight annul m npc t z = z
 
 follows-zero : (npc : ℕ) (m : Machine) → ZeroIn m → ZeroOld (follows npc m)
 unfolding follows

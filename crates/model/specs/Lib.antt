@@ -1,5 +1,9 @@
 pub mod Run
 pub mod OldCore
+pub mod Places
+pub mod Walk
+pub mod Records
+pub mod Translation
 pub mod OldState
 pub mod StateBytes
 pub mod Cases

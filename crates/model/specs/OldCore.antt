@@ -22,7 +22,7 @@ pub data Old : Type 0 where
 
 -- "An address lies in the image if (address − base) modulo 2^32, plus 4, is at most its length."
 unfoldable pub inImage : ℕ → ℕ → ℕ → Bool
-inImage base length p = leb (minus p base + 4) length
+inImage base size p = leb (minus p base + 4) size
 
 -- the word at an address that lies in the image
 unfoldable pub wordIn : List ℕ → ℕ → ℕ → Option ℕ

@@ -40,3 +40,23 @@ impl OldCore {
         }
     }
 }
+
+// What the old core is about to do, at an address: with a known next address, which is 4 further for a plain place and any other for a
+// slot; or held, with a next address that is known only when it is run.
+pub enum Place {
+    Pair(u32, u32),
+    Held(u32),
+}
+
+// What a translation answers: the place count and the record count, or a refusal with its value.
+pub enum Answer {
+    Accepted(u32, u32),
+    ImageLength(u64),
+    Base(u32),
+    // the position of a bad entry, counted from 1, or 0 where the count is bad
+    Entry(u32),
+    Forbidden(u32),
+    NoRoom(u32),
+    // the records needed
+    RecordsShort(u32),
+}

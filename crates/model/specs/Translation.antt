@@ -1,0 +1,92 @@
+-- 01, What the translator hands back: from the bytes of image and entries, the base and the lengths of both buffers.
+use Prim.Native.Nat.{ℕ, suc, _-_, _/_, _%_, _<_, min}
+use mathlib.Core.Path.{_≡_}
+use mathlib.Core.Bool.{Bool, true, false, _&&_, _||_, not}
+use mathlib.Core.List.{List, [], _∷_, _++_}
+use lib.Dec.{eqb, leb, ltb}
+use lib.ListN.{length, getD, replicate}
+use Rattle.numbers.specs.Choice.{pick}
+use Rattle.numbers.specs.Number.{bytesOf}
+use Rattle.model.specs.declared.Place.{Place}
+use Rattle.model.specs.declared.Answer.{Answer}
+use Rattle.model.specs.declared.Answer.the-variants.{Accepted, ImageLength, Base, Entry, Forbidden, NoRoom, RecordsShort}
+use Rattle.model.specs.OldCore.{inImage}
+use Rattle.model.specs.Walk.{Walked, table, refused, endless, placesOf}
+use Rattle.model.specs.Records.{numbersIn, rowsOf, recordsOf, tableNumbers, recordsNumbers}
+
+-- 01's number for each answer, and the values returned
+unfoldable pub answerNumbers : Answer → List ℕ
+answerNumbers (Accepted places records) = 0 ∷ places ∷ records ∷ []
+answerNumbers (ImageLength n) = 1 ∷ n ∷ 0 ∷ []
+answerNumbers (Base a) = 2 ∷ a ∷ 0 ∷ []
+answerNumbers (Entry k) = 3 ∷ k ∷ 0 ∷ []
+answerNumbers (Forbidden a) = 4 ∷ a ∷ 0 ∷ []
+answerNumbers (NoRoom a) = 5 ∷ a ∷ 0 ∷ []
+answerNumbers (RecordsShort n) = 6 ∷ n ∷ 0 ∷ []
+
+-- the answer and the bytes of both buffers
+pub record Handed : Type 0 where
+  pub answer : Answer
+  pub places : List ℕ
+  pub records : List ℕ
+
+-- 1: "length 0, above 16,384, or no multiple of 4"
+unfoldable pub badLength : ℕ → Bool
+badLength n = eqb n 0 || ltb 16384 n || not (eqb (n % 4) 0)
+
+-- 3: "0 or over 64 entries"
+unfoldable pub badCount : ℕ → Bool
+badCount n = eqb n 0 || ltb 64 n
+
+-- 3: "an entry misaligned or outside the image"
+unfoldable pub badEntry : ℕ → ℕ → ℕ → Bool
+badEntry base size e = not (eqb (e % 4) 0 && inImage base size e)
+
+unfoldable pub anyBad : ℕ → ℕ → List ℕ → Bool
+anyBad base size [] = false
+anyBad base size (e ∷ es) = pick (badEntry base size e) true (anyBad base size es)
+
+-- "where the count is good, the position in refusal 3 may be that of any bad entry, and is always that of one", counted from 1
+pub record BadAt (base size : ℕ) (es : List ℕ) (position : ℕ) : Type 0 where
+  pub before : ℕ
+  pub from-one : position ≡ suc before
+  pub there : before < length es
+  pub bad : badEntry base size (getD es before 0) ≡ true
+
+-- 5: "a new place exceeds the table (four numbers each ..) or is the 8,193rd"
+unfoldable pub placeRoom : ℕ → ℕ
+placeRoom size = min (size / 16) 8192
+
+-- "on acceptance all bytes past the last number used are 0"
+unfoldable pub filled : List ℕ → ℕ → List ℕ
+filled numbers size = bytesOf numbers ++ replicate (size - length (bytesOf numbers)) 0
+
+module _ (image : List ℕ) (base : ℕ) (entries : List ℕ) (placesLength recordsLength position : ℕ) where
+  -- "Every refusal fills both buffers with 0"
+  unfoldable pub refusal : Answer → Handed
+  refusal a = record { answer = a; places = replicate placesLength 0; records = replicate recordsLength 0 }
+
+  unfoldable pub acceptance : List Place → Handed
+  acceptance ps =
+      record {
+        answer = Accepted (length ps) (length (recordsOf image base ps));
+        places = filled (tableNumbers (rowsOf image base ps)) placesLength;
+        records = filled (recordsNumbers (recordsOf image base ps)) recordsLength;
+      }
+
+  -- 4 or 5, as the walk says; 6: "the record buffer is short", with the records needed
+  unfoldable pub fromWalk : Walked → Handed
+  fromWalk (table ps) =
+      pick (leb (length (recordsOf image base ps)) (recordsLength / 12)) (acceptance ps)
+      (refusal (RecordsShort (length (recordsOf image base ps))))
+  fromWalk (refused n a) = pick (eqb n 4) (refusal (Forbidden a)) (refusal (NoRoom a))
+  fromWalk endless = refusal (NoRoom 0)
+
+  -- "Order: 1, 2, 3. In the walk .. the first event of 4 or 5 decides; 6 comes last."
+  unfoldable pub translation : Handed
+  translation =
+      pick (badLength (length image)) (refusal (ImageLength (length image)))
+      (pick (not (eqb (base % 4) 0)) (refusal (Base base))
+      (pick (badCount (length (numbersIn entries))) (refusal (Entry 0))
+      (pick (anyBad base (length image) (numbersIn entries)) (refusal (Entry position))
+      (fromWalk (placesOf image base (placeRoom placesLength) (numbersIn entries))))))
