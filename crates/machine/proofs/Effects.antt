@@ -1,11 +1,12 @@
 -- Laws of effects: the words that are not done here.
+use Rattle.machine.specs.declared.End.{End}
 use Rattle.numbers.proofs.Choice.{either}
 use Rattle.numbers.specs.Number.{minus}
 use Rattle.numbers.specs.Choice.{pick}
 use Rattle.words.specs.declared.Width.{Width}
 use Rattle.words.specs.declared.Operand.{Operand}
 use Rattle.words.specs.Conditions.{holdsOf}
-use Rattle.machine.proofs.Ends.{EndsWell, within-ends}
+use Rattle.machine.proofs.Ends.{EndsWell, within-ends, going-of, over-of}
 use Rattle.machine.specs.Registers.{registerOf, putRegister, addressOf}
 use Rattle.machine.specs.DataArea.{sizeOf, putValue, loadedAt, access, loadOf, storeOf}
 use lib.ListN.{length}
@@ -14,13 +15,13 @@ use native.Mathlib.Omega.{arith}
 use mathlib.Core.Bool.{Bool, false}
 use Rattle.words.specs.declared.Instruction.the-variants.{Illegal, Call, Sethi, Bicc, Arithmetic, Jmpl, Ticc, Load, Store}
 use Rattle.words.specs.declared.Instruction.{Instruction}
-use Rattle.machine.specs.Ends.{live, settle, ending, go, halt}
-use Rattle.machine.specs.Effect.{effectOf, Machine, trapOf, withRegisters, withArea}
+use Rattle.machine.specs.Ends.{live, settle, ending, go, halt, endingOf, isGoing, within, left, Ending, Next, state}
+use Rattle.machine.specs.Effect.{effectOf, Machine, trapOf, withRegisters, withArea, machine}
 use denote.Enum.Declared.{tagOf}
 use Rattle.words.proofs.Instruction.{the-type as instruction}
 use types.Run.{OneOf, miss}
 use mathlib.Core.List.{List, [], _∷_}
-use mathlib.Core.Path.{_≡_, refl}
+use mathlib.Core.Path.{_≡_, refl, ap}
 use Prim.Native.Nat.{ℕ, _+_, _%_}
 
 -- the numbers are those of the variants, in the order of the enum
@@ -77,3 +78,25 @@ effects-end db (Load w sign rd rs1 x) m =
     within-ends (withRegisters m) _ (load-ends w sign db (m .area) rd (addressOf (m .registers) rs1 x) (m .registers))
 effects-end db (Store w rd rs1 x) m =
     within-ends (withArea m) _ (store-ends w db (registerOf (m .registers) rd) (addressOf (m .registers) rs1 x) (m .area))
+
+-- the parts of equal states
+same-ending : {S : Type 0} {x y : S} {d e : Ending} → state x d ≡ state y e → d ≡ e
+same-ending p = cc
+
+same-state : {S : Type 0} {x y : S} {d e : Ending} → state x d ≡ state y e → x ≡ y
+same-state p = cc
+
+-- a core that does a word by `perform`: it goes on as `on` says, or ends and stays as it was. `stay` is the core's state around the machine.
+pub after-effect : {S : Type 0} (stay on : Machine → S) (rs rs′ a a′ : List ℕ) (f f′ : ℕ) (n : Next Machine) (e : End) → EndsWell n
+    → left (machine rs′ f′ a′) e ≡ settle (machine rs f a) n
+    → pick (isGoing e) (live (on (machine rs′ f′ a′))) (left (stay (machine rs′ f a′)) e) ≡ settle (stay (machine rs f a)) (within on n)
+unfolding settle within
+after-effect stay on rs rs′ a a′ f f′ (go m) e w h =
+    let g : endingOf e ≡ ending 0 0 = same-ending h in
+    let same : machine rs′ f′ a′ ≡ m = same-state h in
+    rw (going-of e g, same)
+after-effect stay on rs rs′ a a′ f f′ (halt (ending k v)) e w h =
+    let g : endingOf e ≡ ending k v = same-ending h in
+    let rs-same : rs′ ≡ rs = ap (λ (m : Machine). m .registers) (same-state h) in
+    let a-same : a′ ≡ a = ap (λ (m : Machine). m .area) (same-state h) in
+    rw (over-of e k v g (w .0), g, rs-same, a-same)

@@ -4,7 +4,7 @@ use Rattle.model.specs.Walk.{grow, grown, tested, handle, walk, placesOf
 use Rattle.model.specs.Records.{numbersIn, biccGroup, groupOf, heldGroupOf, groupAt, heldGroupAt, group, past, numbered, put, tableNumbers, recordNumbers, recordsNumbers, first, rowsFrom, recordsFrom, rowsOf, recordsOf}
 use Rattle.model.specs.Places.{kindOf, nextOf, placeAt, samePlace, member, whichOf, biccNames, names, namesAt, followers, idleBicc, mayBeHeld, mayBeHeldAt, allowed, plains}
 use Rattle.machine.specs.DataArea.{sizeOf, loadOf}
-use Rattle.numbers.specs.Number.{plus, minus, signed, numberAt, bytesOf, numbersOf}
+use Rattle.numbers.specs.Number.{plus, minus, signed, numberAt, bytesOf, numbersOf, upTo}
 use Rattle.words.specs.Reader.{bits, bitSet, operandOf, format0Of, format2Of, format3Of, byFormat, instructionOf}
 use Rattle.words.specs.Conditions.{rows, bitAt, holdsOf, bitOf, nzvcOf}
 use Rattle.machine.specs.Arithmetic.{top, addOverflow, subOverflow, sumOf, differenceOf, logicOf, outcomeOf, carryOf, arithmeticOf}
@@ -53,5 +53,5 @@ each-row (r ∷ rs) e zero h = same-list (r .got) (r .want) (both (sameList (r .
 each-row (r ∷ rs) e (suc i) h = each-row rs (both (sameList (r .got) (r .want)) (allSame rs) e .1) i (le-of-suc-le-suc h)
 
 pub cases-hold : (i : ℕ) → i < length cases → getD cases i noCase .got ≡ getD cases i noCase .want
-unfolding cases given answered listed answerNumbers translation fromWalk acceptance refusal filled placeRoom badLength badCount badEntry anyBad numbersIn placesOf walk handle tested grown grow plains allowed mayBeHeldAt mayBeHeld idleBicc followers namesAt names biccNames whichOf member samePlace placeAt nextOf kindOf rowsOf recordsOf rowsFrom recordsFrom first put numbered past group groupAt heldGroupAt groupOf heldGroupOf biccGroup tableNumbers recordsNumbers recordNumbers numbersOf address addresses over start shown ended step run oldNext oldBegun fetches executes jumps branches follows target transferOf wordIn inImage settle within effectOf arithmeticOf outcomeOf sumOf differenceOf logicOf carryOf top addOverflow subOverflow trapOf loadOf sizeOf registerOf putRegister valueOf addressOf holdsOf rows bitAt nzvcOf bitOf instructionOf byFormat format0Of format2Of format3Of operandOf bits bitSet signed plus minus numberAt bytesOf
+unfolding cases given answered listed answerNumbers translation fromWalk acceptance refusal filled placeRoom badLength badCount badEntry anyBad numbersIn placesOf walk handle tested grown grow plains allowed mayBeHeldAt mayBeHeld idleBicc followers namesAt names biccNames whichOf member samePlace placeAt nextOf kindOf rowsOf recordsOf rowsFrom recordsFrom first put numbered past group groupAt heldGroupAt groupOf heldGroupOf biccGroup tableNumbers recordsNumbers recordNumbers numbersOf upTo address addresses over start shown ended step run oldNext oldBegun fetches executes jumps branches follows target transferOf wordIn inImage settle within effectOf arithmeticOf outcomeOf sumOf differenceOf logicOf carryOf top addOverflow subOverflow trapOf loadOf sizeOf registerOf putRegister valueOf addressOf holdsOf rows bitAt nzvcOf bitOf instructionOf byFormat format0Of format2Of format3Of operandOf bits bitSet signed plus minus numberAt bytesOf
 cases-hold = each-row cases refl

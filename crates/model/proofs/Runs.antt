@@ -1,14 +1,16 @@
 -- Laws of runs: a run continued from here is the run from the start.
+use Rattle.machine.specs.declared.End.the-variants.{Going, TrapTaken, Outside, IllegalWord, Misaligned, Unfit, NoPlace, BadRecord}
+use Rattle.machine.specs.declared.End.{End}
 use borrow.Author.Tests.{leb-true, leb-false}
 use lib.Seq.{take-all, take-at, drop-at, length-take-le}
 use lib.ListN.{length, take, drop, drop-of-length-le}
 use lib.Dec.{leb}
 use mathlib.Core.List.{List, [], _++_, append-nil}
-use mathlib.Core.Bool.{Bool, true, false}
+use mathlib.Core.Bool.{Bool, true, false, false≢true}
 use Prim.Native.Nat.{ℕ, suc, _+_, _-_, _<_, _≤_, min}
-use mathlib.Core.Path.{_≡_, ap, _∙_, refl}
+use mathlib.Core.Path.{_≡_, ap, _∙_, refl, sym}
 use native.Mathlib.Omega.{arith}
-use Rattle.machine.specs.Ends.{Next, State}
+use Rattle.machine.specs.Ends.{Next, State, endingOf, isGoing, left}
 use Rattle.model.specs.Run.{step, run, dataOf, beyond, lent}
 
 -- n − i steps are left of n; one of them is done
@@ -46,3 +48,15 @@ lent-back next count at-data at-end l d n e k h = go (leb (length l) 65536) refl
         let m : length d ≡ 65536 = k ∙ ap (λ (x : ℕ). length (take x l)) q ∙ length-take-le 65536 l (omega arith) in
         let f : at-end d ≡ run next count (at-data (take 65536 l)) = h ∙ ap (λ (x : ℕ). run next count (at-data (take x l))) q in
         rw (q, take-at d (drop 65536 l) 65536 m, drop-at d (drop 65536 l) 65536 m, f)
+
+-- a step on an ended state changes nothing
+pub ended-stays : {S : Type 0} (next : S → Next S) (s : S) (e : End) → isGoing e ≡ false → left s e ≡ step next (left s e)
+unfolding step endingOf isGoing
+ended-stays next s Going h = absurd (false≢true (sym h))
+ended-stays next s (TrapTaken v) h = refl
+ended-stays next s (Outside v) h = refl
+ended-stays next s (IllegalWord v) h = refl
+ended-stays next s (Misaligned v) h = refl
+ended-stays next s (Unfit v) h = refl
+ended-stays next s (NoPlace v) h = refl
+ended-stays next s (BadRecord v) h = refl

@@ -1,6 +1,6 @@
 -- 01: "Register 0 reads and shows as 0." Where it is 0 in the old core's state, it is 0 after any number of steps.
+use Rattle.model.specs.NewCore.{holds}
 use Rattle.numbers.specs.Number.{numbersOf}
-use Rattle.model.specs.OldState.{zeroed}
 use Rattle.model.specs.StateBytes.{machineIn, oldIn}
 use Rattle.numbers.proofs.Choice.{either}
 use Rattle.words.specs.declared.Instruction.{Instruction}
@@ -10,7 +10,7 @@ use Rattle.machine.proofs.Zero.{onward-within, put-zero, ZeroIn, effects-zero, 
 use Rattle.machine.specs.Registers.{putRegister, addressOf}
 use Rattle.machine.specs.Ends.{settle, Next, State, ending, go, halt, state}
 use Rattle.machine.specs.Effect.{withRegisters, effectOf, Machine}
-use Rattle.model.specs.Run.{step, run}
+use Rattle.model.specs.Run.{step, run, zeroed}
 use Rattle.model.specs.OldCore.{wordIn, transferOf, target, follows, branches, jumps, executes, fetches, oldNext, Old, Transfer, old, illegal, straight, call, bicc, jmpl, trap}
 use lib.Dec.{eqb}
 use mathlib.Core.Option.{Option, none, some}

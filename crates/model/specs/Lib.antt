@@ -3,7 +3,9 @@ pub mod OldCore
 pub mod Places
 pub mod Walk
 pub mod Records
+pub mod NewCore
 pub mod Translation
 pub mod OldState
+pub mod NewState
 pub mod StateBytes
 pub mod Cases

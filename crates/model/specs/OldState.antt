@@ -3,7 +3,7 @@ use Prim.Native.Nat.{ℕ}
 use mathlib.Core.Bool.{Bool, not}
 use mathlib.Core.List.{List}
 use lib.Dec.{eqb}
-use lib.ListN.{set, replicate}
+use lib.ListN.{replicate}
 use Rattle.machine.specs.declared.End.the-variants.{Going}
 use Rattle.machine.specs.Ends.{State, left}
 use Rattle.model.specs.declared.OldControl.{OldControl}
@@ -35,7 +35,3 @@ oldOf rs c a = old (record { registers = rs; flags = c .flags .nzvc; area = a })
 
 abbrev pub oldState : List ℕ → OldControl → List ℕ → State Old
 oldState rs c a = left (oldOf rs c a) (c .end)
-
--- "Register 0 reads and shows as 0."
-unfoldable pub zeroed : List ℕ → List ℕ
-zeroed rs = set rs 0 0

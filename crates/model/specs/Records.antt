@@ -1,11 +1,11 @@
 -- 01, Records of the new core: groups, first records, go-to numbers; table and records as numbers.
-use Prim.Native.Nat.{ℕ, suc, _/_}
+use Prim.Native.Nat.{ℕ, suc, _+_, _*_, _/_}
 use mathlib.Core.Bool.{Bool, true, false}
 use mathlib.Core.List.{List, [], _∷_}
 use mathlib.Core.Option.{Option, none, some}
 use Rattle.numbers.specs.Choice.{pick, find}
 use lib.ListN.{length}
-use Rattle.numbers.specs.Number.{plus, numbersOf}
+use Rattle.numbers.specs.Number.{plus, numberAt, numbersOf, upTo}
 use Rattle.words.specs.Reader.{instructionOf}
 use Rattle.model.specs.declared.Place.{Place}
 use Rattle.model.specs.declared.Place.the-variants.{Pair, Held}
@@ -139,23 +139,22 @@ recordsNumbers (r ∷ rs) = recordNumbers r (recordsNumbers rs)
 unfoldable pub numbersIn : List ℕ → List ℕ
 numbersIn bytes = numbersOf bytes (length bytes / 4)
 
--- the rows and the records that numbers stand for
-unfoldable pub rowsIn : List ℕ → List Row
-rowsIn [] = []
-rowsIn (p ∷ []) = []
-rowsIn (p ∷ n ∷ []) = []
-rowsIn (p ∷ n ∷ k ∷ []) = []
-rowsIn (p ∷ n ∷ k ∷ f ∷ rest) = row p n k f ∷ rowsIn rest
+unfoldable pub rowAt : List ℕ → ℕ → Row
+rowAt bytes i = row (numberAt bytes (16 * i)) (numberAt bytes (16 * i + 4)) (numberAt bytes (16 * i + 8)) (numberAt bytes (16 * i + 12))
 
-unfoldable pub recordIn : ℕ → ℕ → ℕ → Rec ℕ
-recordIn kind x y =
+unfoldable pub rowsIn : List ℕ → List Row
+rowsIn bytes = upTo (rowAt bytes) (length bytes / 16)
+
+-- the record of three numbers
+unfoldable pub recordOf : ℕ → ℕ → ℕ → Rec ℕ
+recordOf kind x y =
     find
     ((1, doWord x) ∷ (2, link x) ∷ (3, hold x y) ∷ (4, goIf x y) ∷ (5, goTo x) ∷ (6, goHeld) ∷ (7, stop x y) ∷ [])
     unknown
     kind
 
+unfoldable pub recordAt : List ℕ → ℕ → Rec ℕ
+recordAt bytes r = recordOf (numberAt bytes (12 * r)) (numberAt bytes (12 * r + 4)) (numberAt bytes (12 * r + 8))
+
 unfoldable pub recordsIn : List ℕ → List (Rec ℕ)
-recordsIn [] = []
-recordsIn (k ∷ []) = []
-recordsIn (k ∷ x ∷ []) = []
-recordsIn (k ∷ x ∷ y ∷ rest) = recordIn k x y ∷ recordsIn rest
+recordsIn bytes = upTo (recordAt bytes) (length bytes / 12)

@@ -6,7 +6,8 @@ use Rattle.words.specs.Conditions.{bitOf}
 use Rattle.machine.specs.Ends.{Ending, ending, endingFrom, State, state}
 use Rattle.machine.specs.Effect.{Machine, machine}
 use Rattle.model.specs.OldCore.{Old, old}
-use Rattle.model.specs.OldState.{isSet, zeroed}
+use Rattle.model.specs.Run.{zeroed}
+use Rattle.model.specs.OldState.{isSet}
 
 -- numbers 0 to 31 are the registers, number 32 the flags, of which the low four bits count
 unfoldable pub machineIn : List ℕ → List ℕ → Machine

@@ -1,6 +1,7 @@
 // The states of the cores. specs/ has document 01 as definitions, in 01's order.
 ghost use mathlib.Core.Path.{_≡_};
 ghost use Rattle.model.specs.OldState.{startValues};
+ghost use Rattle.model.specs.NewState.{newStartValues};
 use machine::End;
 use machine::Flags;
 use machine::SourcePc;
@@ -35,6 +36,42 @@ impl OldCore {
             end: End::Going,
         };
         OldCore {
+            registers: [0u32; 32],
+            control: c,
+        }
+    }
+}
+
+// A record's number. It is never read as a source address.
+pub struct TargetPc(pub u32);
+
+// The new core's state but for its registers, which are lent beside it: the record at hand, and the held address.
+pub struct NewControl {
+    pub flags: Flags,
+    pub at: TargetPc,
+    pub held: SourcePc,
+    pub end: End,
+}
+
+// The new core's state.
+pub struct NewCore {
+    pub registers: [u32; 32],
+    pub control: NewControl,
+}
+
+impl NewCore {
+    // The start values: all registers 0, all flags clear.
+    pub fn new() -> Self
+        ensures { λ r. ⌜ r ≡ newStartValues ⌝ }
+    {
+        let f = Flags::CLEAR;
+        let c = NewControl {
+            flags: f,
+            at: TargetPc(0),
+            held: SourcePc(0),
+            end: End::Going,
+        };
+        NewCore {
             registers: [0u32; 32],
             control: c,
         }

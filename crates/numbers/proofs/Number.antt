@@ -11,7 +11,7 @@ use lib.ListN.{length, set, take, drop, replicate, length-set, drop-of-length-le
 use borrow.Author.Fill.{fill-more}
 use borrow.Author.Tests.{ltb-true, ltb-false}
 use Rattle.numbers.specs.Choice.{pick}
-use Rattle.numbers.specs.Number.{minus, putNumber, zeroFrom, numberAt, numbersOf, bytesOf}
+use Rattle.numbers.specs.Number.{minus, putNumber, zeroFrom, numberAt, numbersOf, bytesOf, upTo}
 use Rattle.numbers.proofs.Choice.{by-test}
 
 -- the lowest byte of a sum, and the rest
@@ -138,7 +138,7 @@ put-more l at vs i h k =
 -- one more number is read
 pub read-more : (bytes list : List ℕ) (i : ℕ) → i < length list → take i list ≡ numbersOf bytes i
     → take (i + 1) (set list i (numberAt bytes (4 * i))) ≡ numbersOf bytes (i + 1)
-unfolding numbersOf
+unfolding numbersOf upTo
 read-more bytes list i h e = rw (add-one i, take-suc-set list i (numberAt bytes (4 * i)) h, e)
 
 pub bytes-append : (vs ws : List ℕ) → bytesOf (vs ++ ws) ≡ bytesOf vs ++ bytesOf ws

@@ -26,10 +26,14 @@ unfoldable pub putNumber : List ℕ → ℕ → ℕ → List ℕ
 putNumber bytes at v =
     set (set (set (set bytes at (v / 2 ^ 24 % 256)) (at + 1) (v / 2 ^ 16 % 256)) (at + 2) (v / 2 ^ 8 % 256)) (at + 3) (v % 256)
 
+-- f 0, f 1, .. up to and without f n
+unfoldable pub upTo : {A : Type 0} → (ℕ → A) → ℕ → List A
+upTo f zero = []
+upTo f (suc n) = upTo f n ++ (f n ∷ [])
+
 -- the first n numbers of an area
 unfoldable pub numbersOf : List ℕ → ℕ → List ℕ
-numbersOf bytes zero = []
-numbersOf bytes (suc n) = numbersOf bytes n ++ (numberAt bytes (4 * n) ∷ [])
+numbersOf bytes n = upTo (λ i. numberAt bytes (4 * i)) n
 
 -- the bytes of a list of numbers
 unfoldable pub bytesOf : List ℕ → List ℕ

@@ -1,7 +1,7 @@
 -- Laws of a step: the words that do not transfer control, and the test of annul.
+use Rattle.model.specs.Places.{always}
+use Rattle.model.specs.NewCore.{holds}
 use lib.Dec.{eqb}
-use Rattle.machine.specs.declared.End.the-variants.{Going, TrapTaken, Outside, IllegalWord, Misaligned, Unfit, NoPlace, BadRecord}
-use Rattle.model.specs.Run.{step}
 use borrow.Author.Tests.{ne-eqb}
 use Rattle.numbers.specs.Number.{plus}
 use native.Mathlib.Nat.{add-mod-mod}
@@ -10,47 +10,17 @@ use Rattle.numbers.specs.Choice.{pick}
 use Rattle.words.specs.declared.Instruction.the-variants.{Illegal, Call, Sethi, Bicc, Arithmetic, Jmpl, Ticc, Load, Store}
 use Rattle.words.specs.declared.Instruction.{Instruction}
 use Rattle.words.specs.Conditions.{bitOf}
-use Rattle.machine.specs.declared.End.{End}
-use Rattle.machine.proofs.Ends.{going-of, over-of, EndsWell}
-use Rattle.machine.specs.Ends.{endingOf, isGoing, within, live, left, settle, Ending, Next, ending, go, halt, state}
-use Rattle.machine.specs.Effect.{machine, effectOf, Machine}
+use Rattle.machine.specs.Ends.{within, live, settle, ending, halt}
+use Rattle.machine.specs.Effect.{effectOf, Machine}
 use Rattle.model.specs.OldCore.{transferOf, follows, executes, old, target, branches, wordIn, fetches, oldNext, straight, trap}
 use Rattle.model.specs.OldState.{isSet}
 use denote.Enum.Declared.{tagOf}
 use types.Run.{OneOf, miss}
 use mathlib.Core.List.{List, [], _∷_}
-use mathlib.Core.Bool.{Bool, true, false, _&&_, false≢true}
-use mathlib.Core.Path.{_≡_, refl, ap, _∙_, sym}
+use mathlib.Core.Bool.{Bool, true, false, _&&_}
+use mathlib.Core.Path.{_≡_, refl, _∙_}
 use Prim.Native.Nat.{ℕ, _*_, _%_, _^_}
 use Rattle.words.proofs.Instruction.{the-type as instruction}
-
--- after a word that does not transfer control: the code's answer is that of the definitions
-pub after-effect : (rs rs′ a a′ : List ℕ) (f f′ pc npc : ℕ) (annul : Bool) (n : Next Machine) (e : End) → EndsWell n
-    → left (machine rs′ f′ a′) e ≡ settle (machine rs f a) n
-    → pick (isGoing e) (live (follows npc (machine rs′ f′ a′))) (left (old (machine rs′ f a′) pc npc annul) e)
-    ≡ settle (old (machine rs f a) pc npc annul) (within (follows npc) n)
-unfolding settle within
-after-effect rs rs′ a a′ f f′ pc npc annul (go m) e w h =
-    let g : endingOf e ≡ ending 0 0 = ending-of h in
-    let m-eq : machine rs′ f′ a′ ≡ m = machine-of h in
-    rw (going-of e g, m-eq)
-  where
-    ending-of : {x y : Machine} {d d′ : Ending} → state x d ≡ state y d′ → d ≡ d′
-    ending-of p = cc
-
-    machine-of : {x y : Machine} {d d′ : Ending} → state x d ≡ state y d′ → x ≡ y
-    machine-of p = cc
-after-effect rs rs′ a a′ f f′ pc npc annul (halt (ending k v)) e w h =
-    let g : endingOf e ≡ ending k v = ending-of h in
-    let r-eq : rs′ ≡ rs = ap (λ (m : Machine). m .registers) (machine-of h) in
-    let a-eq : a′ ≡ a = ap (λ (m : Machine). m .area) (machine-of h) in
-    rw (over-of e k v g (w .0), g, r-eq, a-eq)
-  where
-    ending-of : {x y : Machine} {d d′ : Ending} → state x d ≡ state y d′ → d ≡ d′
-    ending-of p = cc
-
-    machine-of : {x y : Machine} {d d′ : Ending} → state x d ≡ state y d′ → x ≡ y
-    machine-of p = cc
 
 -- the numbers are those of the variants, in the order of the enum
 abbrev others : List ℕ
@@ -113,18 +83,6 @@ module _ (m : Machine) (npc t : ℕ) (annul holds always : Bool) where
 pub in-words : (p disp : ℕ) → plus p (disp * 4 % 2 ^ 32) ≡ target p disp
 unfolding plus target
 in-words p disp = add-mod-mod p (disp * 4) (2 ^ 32) ∙ omega arith
-
--- a step on an ended state changes nothing
-pub ended-stays : {S : Type 0} (next : S → Next S) (s : S) (e : End) → isGoing e ≡ false → left s e ≡ step next (left s e)
-unfolding step endingOf isGoing
-ended-stays next s Going h = absurd (false≢true (sym h))
-ended-stays next s (TrapTaken v) h = refl
-ended-stays next s (Outside v) h = refl
-ended-stays next s (IllegalWord v) h = refl
-ended-stays next s (Misaligned v) h = refl
-ended-stays next s (Unfit v) h = refl
-ended-stays next s (NoPlace v) h = refl
-ended-stays next s (BadRecord v) h = refl
 
 -- by annul: the word is passed unread, or it is fetched
 module _ (image : List ℕ) (base db : ℕ) (m : Machine) (pc npc : ℕ) (annul : Bool) where

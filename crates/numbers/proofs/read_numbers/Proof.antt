@@ -1,6 +1,6 @@
 use Rattle.numbers.proofs.Number.{read-more}
 use lib.Seq.{take-all}
-use Rattle.numbers.specs.Number.{numbersOf}
+use Rattle.numbers.specs.Number.{numbersOf, upTo}
 use borrow.Author.Needs.{needs}
 use lib.ListN.{length, take, length-set}
 use native.Mathlib.Omega.{arith}
@@ -16,7 +16,7 @@ abbrev μ-loop : tie.MeasureT-loop
 μ-loop bytes list₀ i₀ list i = length list - i
 
 loop-holds : tie.Need-loop-holds Inv-loop μ-loop
-unfolding numbersOf
+unfolding numbersOf upTo
 loop-holds c = (omega arith, search needs, refl)
 
 mul-read-number : tie.Need-mul-read-number Inv-loop μ-loop

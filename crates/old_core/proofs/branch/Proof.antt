@@ -1,3 +1,4 @@
+use Rattle.model.specs.NewCore.{holds}
 use Rattle.old_core.proofs.Words.{branch-always, branch-taken, branch-fails}
 use mathlib.Core.Path.{sym, _∙_}
 use Rattle.machine.specs.Ends.{left}

@@ -1,9 +1,11 @@
-use Rattle.machine.proofs.Effects.{effects-end}
-use Rattle.machine.specs.Effect.{machine}
-use Rattle.old_core.proofs.Words.{after-effect, no-transfer}
+use Rattle.model.specs.Cases.{given}
+use Rattle.model.specs.Records.{put, stop}
+use Rattle.machine.proofs.Effects.{effects-end, after-effect}
+use Rattle.machine.specs.Effect.{machine, Machine}
+use Rattle.old_core.proofs.Words.{no-transfer}
 use mathlib.Core.Path.{_∙_, sym, ap}
 use Rattle.machine.specs.Ends.{endingOf, settle}
-use Rattle.model.specs.OldCore.{transferOf, target, executes}
+use Rattle.model.specs.OldCore.{transferOf, target, executes, follows, old}
 use Rattle.model.specs.OldState.{isSet, oldOf}
 use borrow.Author.Needs.{needs}
 use Rattle.old_core.proofs.execute.Statement.{statement}
@@ -68,7 +70,7 @@ returns-5 : tie.Need-returns-5
 returns-5 c = let k = c .before .before .before .before .before .before .before .before .before .before .args in
     let m = machine (k .regs .now) (k .c .flags .nzvc) (k .area .now) in
     c .finish .ensures _ _
-    ∙ after-effect _ _ _ _ _ _ _ _ _ _ _ (effects-end (k .db) (k .i) m) (c .before .before .before .perform .ensures)
+    ∙ after-effect (λ (x : Machine). old x (k .c .pc .0) (k .c .npc .0) (isSet (k .c .annul))) (follows (k .c .npc .0)) _ _ _ _ _ _ _ _ (effects-end (k .db) (k .i) m) (c .before .before .before .perform .ensures)
     ∙ ap (settle (oldOf (k .regs .now) (k .c) (k .area .now))) (sym (no-transfer (k .db) (k .i) m (k .c .pc .0) (k .c .npc .0) (c .before .before .before .before .before .before .match .keys5)))
 
 pub execute-spec : {M : Type 1} → statement M

@@ -1,3 +1,4 @@
+use Rattle.model.specs.Records.{stop}
 use Rattle.machine.specs.Ends.{endingOf, left, settle}
 use Rattle.model.specs.OldCore.{inImage, wordIn, fetches}
 use borrow.Author.Tests.{lt-leb, eq-eqb, ne-eqb, le-leb}

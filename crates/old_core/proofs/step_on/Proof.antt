@@ -1,6 +1,6 @@
+use Rattle.model.proofs.Runs.{ended-stays}
 use Rattle.machine.proofs.Ends.{going-is}
 use Rattle.machine.specs.Ends.{left}
-use Rattle.old_core.proofs.Words.{ended-stays}
 use mathlib.Core.Path.{sym, _∙_}
 use Rattle.model.specs.Run.{step}
 use borrow.Author.Needs.{needs}
