@@ -43,6 +43,26 @@ struct pijorrel_end pijorrel_old_run(const uint8_t *image, size_t image_length, 
                                      uint32_t data_base, uint8_t state[PIJORREL_OLD_STATE],
                                      uint8_t *data, size_t data_length, uint16_t count);
 
+/* The new core's state: 37 numbers.
+ *   0 to 31  registers     33  record number     35  end, 36 the number beside it
+ *   32       flags         34  held address
+ * They are read as the old core's are. All bytes 0 are the start values. */
+#define PIJORREL_NEW_STATE 148
+
+/* A place table has four numbers for each place: address, next, kind (0 plain, 1 slot, 2 held), first record; records
+ * have three numbers each. Any bytes will do; a tail too short for a whole place or record is not counted. */
+
+/* Begins at the first record of the address's lowest-numbered plain place, with held address 0; keeps registers and
+ * flags. With no such place the run ends at once: 2 outside the image, 6 inside, record number 0. */
+struct pijorrel_end pijorrel_new_begin(const uint8_t *places, size_t places_length, uint32_t base,
+                                       uint32_t image_length, uint32_t address, uint8_t state[PIJORREL_NEW_STATE]);
+
+/* Does count records, or fewer where the run ends. Of the data the first 65,536 bytes exist. */
+struct pijorrel_end pijorrel_new_run(const uint8_t *records, size_t records_length, const uint8_t *places,
+                                     size_t places_length, uint32_t base, uint32_t image_length, uint32_t data_base,
+                                     uint8_t state[PIJORREL_NEW_STATE], uint8_t *data, size_t data_length,
+                                     uint16_t count);
+
 #ifdef __cplusplus
 }
 #endif

@@ -134,12 +134,38 @@ static void data_edges(void)
     CHECK(guards_stand(&g));
 }
 
+/* 01's listing on the new core: its place table and records, from its entry to the trap. */
+static void listing_runs(void)
+{
+    static const uint32_t places[] = { 0, 4, 0, 0, 4, 12, 1, 1, 12, 16, 0, 3 };
+    static const uint32_t records[] = { 5, 1, 0, 1, 2181062657u, 0, 5, 3, 0, 1, 2446336000u, 0 };
+    uint8_t table[48], list[48], state[PIJORREL_NEW_STATE] = { 0 };
+    for (int i = 0; i < 12; i++) {
+        put_number(table, i, places[i]);
+        put_number(list, i, records[i]);
+    }
+    struct pijorrel_end end = pijorrel_new_begin(table, sizeof table, 0, 16, 0, state);
+    CHECK(end.end == 0 && end.number == 0);
+    end = pijorrel_new_run(list, sizeof list, table, sizeof table, 0, 16, 0, state, NULL, 0, 65535);
+    CHECK(end.end == 1 && end.number == 0 && number_at(state, 1) == 1 && number_at(state, 33) == 3);
+    end = pijorrel_new_begin(table, sizeof table, 0, 16, 8, state);
+    CHECK(end.end == 6 && end.number == 8 && number_at(state, 33) == 0); /* inside, and no place */
+    end = pijorrel_new_begin(table, sizeof table, 0, 16, 16, state);
+    CHECK(end.end == 2 && end.number == 16 && number_at(state, 1) == 1); /* outside; registers stay */
+    end = pijorrel_new_begin(table, 47, 0, 16, 12, state);
+    CHECK(end.end == 6 && end.number == 12); /* a tail too short for a place is not counted */
+    pijorrel_new_begin(table, sizeof table, 0, 16, 12, state);
+    end = pijorrel_new_run(list, 47, table, sizeof table, 0, 16, 0, state, NULL, 0, 1);
+    CHECK(end.end == 7 && end.number == 3); /* nor one too short for a record */
+}
+
 int main(void)
 {
     couple_of_branches();
     bad_places();
     any_state();
     data_edges();
+    listing_runs();
     printf("%d of %d checks of the C interface hold\n", checks - failures, checks);
     return failures != 0;
 }

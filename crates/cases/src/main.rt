@@ -7,6 +7,7 @@ use libc::STDOUT_FILENO;
 
 mod file;
 mod old;
+mod records;
 mod trail;
 
 // The most bytes of a file that are read.
@@ -15,6 +16,7 @@ const LARGEST: usize = 1048576;
 // What the cases of a file are.
 enum Kind {
     Old,
+    New,
     Trail,
 }
 
@@ -39,15 +41,26 @@ fn space() -> [u8; 65552]
     [0; 65552]
 }
 
+// How many bytes of data the case at a position has.
+fn data_size(kind: Kind, bytes: &[u8], at: usize) -> usize
+    requires { ⌜ at ≤ length (now bytes) + 4 ⌝ }
+{
+    match kind {
+        Kind::New => file::number(bytes, at + 24) as usize,
+        _ => file::number(bytes, at + 16) as usize,
+    }
+}
+
 // Runs the case at a position. A case with data that do not fit the area differs.
 fn check(kind: Kind, bytes: &[u8], at: usize) -> Found
     requires { ⌜ at ≤ length (now bytes) + 4 ⌝ }
 {
     let mut zeros = space();
-    let n = file::least(file::number(bytes, at + 16) as usize, zeros.len());
+    let n = file::least(data_size(kind, bytes, at), zeros.len());
     let area = &mut zeros[..n];
     match kind {
         Kind::Old => old::check(bytes, at, area),
+        Kind::New => records::check(bytes, at, area),
         Kind::Trail => trail::check(bytes, at, area),
     }
 }
@@ -96,6 +109,13 @@ fn main() {
     run(
         Kind::Old,
         b"old_core.bin",
+        &mut buffer,
+        b" of ",
+        b" agree\n",
+    );
+    run(
+        Kind::New,
+        b"new_core.bin",
         &mut buffer,
         b" of ",
         b" agree\n",

@@ -6,6 +6,7 @@ use Rattle.words.specs.Conditions.{bitOf}
 use Rattle.machine.specs.Ends.{Ending, ending, endingFrom, State, state}
 use Rattle.machine.specs.Effect.{Machine, machine}
 use Rattle.model.specs.OldCore.{Old, old}
+use Rattle.model.specs.NewCore.{New, new}
 use Rattle.model.specs.Run.{zeroed}
 use Rattle.model.specs.OldState.{isSet}
 
@@ -23,6 +24,14 @@ oldIn bytes area =
 unfoldable pub oldBytes : State Old → List ℕ
 oldBytes (state (old m pc npc annul) (ending n v)) = bytesOf (m .registers ++ (m .flags ∷ pc ∷ npc ∷ bitOf annul ∷ n ∷ v ∷ []))
 
+-- the new core: record number, held address, end and the number beside it follow
+unfoldable pub newIn : List ℕ → List ℕ → State New
+newIn bytes area =
+    state (new (machineIn bytes area) (numberAt bytes 132) (numberAt bytes 136)) (endingFrom (numberAt bytes 140) (numberAt bytes 144))
+
+unfoldable pub newBytes : State New → List ℕ
+newBytes (state (new m r h) (ending n v)) = bytesOf (m .registers ++ (m .flags ∷ r ∷ h ∷ n ∷ v ∷ []))
+
 -- what a call answers, and leaves in the state and in the lent area
 pub record After : Type 0 where
   pub ended : Ending
@@ -36,3 +45,6 @@ after n v bytes area = record { ended = ending n v; state = bytes; area = area }
 unfoldable pub oldAfter : State Old → List ℕ → After
 oldAfter (state (old m pc npc annul) e) rest =
     record { ended = e; state = oldBytes (state (old m pc npc annul) e); area = m .area ++ rest }
+
+unfoldable pub newAfter : State New → List ℕ → After
+newAfter (state (new m r h) e) rest = record { ended = e; state = newBytes (state (new m r h) e); area = m .area ++ rest }

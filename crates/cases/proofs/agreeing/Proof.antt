@@ -1,6 +1,5 @@
 use borrow.Author.Needs.{needs}
 use lib.ListN.{length}
-use mathlib.Core.Path.{_≡_}
 use Prim.Native.Nat.{_+_, _*_, _-_, _≤_}
 use Rattle.cases.proofs.agreeing.Statement.{statement}
 use Rattle.cases.proofs.agreeing.Tie as tie

@@ -8,14 +8,8 @@ use Rattle.cases.proofs.check.Tie as tie
 space-requires : tie.Need-space-requires
 space-requires c κs = search needs
 
-add-number : tie.Need-add-number
-add-number c = search needs
-
-number-requires : tie.Need-number-requires
-number-requires c κs = search needs
-
-cast-least : tie.Need-cast-least
-cast-least c = search needs
+data-size-requires : tie.Need-data-size-requires
+data-size-requires c κs = search needs
 
 least-requires : tie.Need-least-requires
 least-requires c κs = search needs
@@ -38,20 +32,27 @@ enum-told-2 c = search needs
 check-requires-2 : tie.Need-check-requires-2
 check-requires-2 c κs = search needs
 
+enum-told-3 : tie.Need-enum-told-3
+enum-told-3 c = search needs
+
+check-requires-3 : tie.Need-check-requires-3
+check-requires-3 c κs = search needs
+
 returns : tie.Need-returns
 returns c = search needs
 
 returns-2 : tie.Need-returns-2
 returns-2 c = search needs
 
+returns-3 : tie.Need-returns-3
+returns-3 c = search needs
+
 pub check-spec : {M : Type 1} → statement M
 check-spec =
     tie.close
     (tie.spec
     space-requires
-    add-number
-    number-requires
-    cast-least
+    data-size-requires
     least-requires
     array-borrow-prefix-zeros
     slice-aggregate-area
@@ -59,5 +60,8 @@ check-spec =
     check-requires
     enum-told-2
     check-requires-2
+    enum-told-3
+    check-requires-3
     returns
-    returns-2)
+    returns-2
+    returns-3)

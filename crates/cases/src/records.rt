@@ -1,0 +1,91 @@
+// A case of the new core: a state, a place table, records and data, and the state and the data after a run of a given count.
+ghost use mathlib.Core.Path.{_≡_};
+ghost use Prim.Native.Nat.{_+_, _*_, _/_, _≤_};
+ghost use lib.ListN.{length};
+use crate::file::Found;
+use crate::file::copy;
+use crate::file::number;
+use crate::file::padded;
+use crate::file::part;
+use machine::Ended;
+
+// What a case starts with.
+const TAG: u32 = 0x4E455743;
+
+// Whether a run ended in the known state.
+fn ended_in(known: &[u8], state: &[u8; 148], r: Ended) -> bool {
+    check::same(state, known) && r.end == number(known, 140) && r.number == number(known, 144)
+}
+
+// Where the parts of a case start, and how many bytes its place table (rows), its records (extent) and its data (size) have.
+struct Parts {
+    places: usize,
+    rows: usize,
+    records: usize,
+    extent: usize,
+    before: usize,
+    size: usize,
+    known: usize,
+    after: usize,
+    next: usize,
+}
+
+// The parts of the case at a position: eight numbers, a state of 148 bytes, a place table, records, data, a state, data.
+fn locate(bytes: &[u8], at: usize) -> Parts
+    requires { ⌜ at ≤ length (now bytes) + 4 ⌝ }
+    ensures { λ r. ⌜ (r .places ≡ at + 180) × (r .records ≡ r .places + (r .rows + 3) / 4 * 4) × (r .before ≡ r .records + (r .extent + 3) / 4 * 4) × (r .known ≡ r .before + (r .size + 3) / 4 * 4) × (r .after ≡ r .known + 148) × (r .next ≡ r .after + (r .size + 3) / 4 * 4) ⌝ }
+{
+    let rows = number(bytes, at + 4);
+    let extent = number(bytes, at + 8);
+    let size = number(bytes, at + 24);
+    let places = at + 180;
+    let records = places + padded(rows);
+    let before = records + padded(extent);
+    let known = before + padded(size);
+    let after = known + 148;
+    Parts {
+        places,
+        rows: rows as usize,
+        records,
+        extent: extent as usize,
+        before,
+        size: size as usize,
+        known,
+        after,
+        next: after + padded(size),
+    }
+}
+
+// Runs the case that starts at a position, in a data area of its size. It has one entry.
+pub fn check(bytes: &[u8], at: usize, area: &mut [u8]) -> Found
+    requires { ⌜ at ≤ length (now bytes) + 4 ⌝ }
+{
+    let base = number(bytes, at + 12);
+    let length = number(bytes, at + 16);
+    let db = number(bytes, at + 20);
+    let count = (number(bytes, at + 28) % 65536) as u16;
+    let p = locate(bytes, at);
+    let mut state = [0u8; 148];
+    copy(&mut state, part(bytes, at + 32, 148));
+    copy(area, part(bytes, p.before, p.size));
+    let places = part(bytes, p.places, p.rows);
+    let records = part(bytes, p.records, p.extent);
+    let r = pijorrel_new::pijorrel_new_run(
+        records,
+        places,
+        base,
+        length,
+        db,
+        &mut state,
+        area,
+        count,
+    );
+    let agrees = number(bytes, at) == TAG
+        && ended_in(part(bytes, p.known, 148), &state, r)
+        && check::same(area, part(bytes, p.after, p.size));
+    Found {
+        next: p.next,
+        entries: agrees as u32,
+        agrees,
+    }
+}

@@ -1,0 +1,15 @@
+use Rattle.machine.specs.Ends.{endingOf, settle}
+use Rattle.model.specs.Records.{stop}
+use borrow.Author.Needs.{needs}
+use Rattle.new_core.proofs.bad.Statement.{statement}
+use Rattle.new_core.proofs.bad.Tie as tie
+
+stop-requires : tie.Need-stop-requires
+stop-requires c κs = search needs
+
+returns : tie.Need-returns
+unfolding settle endingOf
+returns c = λ rs a. c .stop .ensures rs a
+
+pub bad-spec : {M : Type 1} → statement M
+bad-spec = tie.close (tie.spec stop-requires returns)

@@ -1,0 +1,132 @@
+use Rattle.machine.specs.Ends.{settle}
+use Rattle.model.specs.Records.{recordOf, link, hold}
+use Rattle.model.specs.NewCore.{doesWord, does}
+use Rattle.new_core.proofs.Records.{read-as, no-kind}
+use borrow.Author.Needs.{needs}
+use Rattle.new_core.proofs.obey.Statement.{statement}
+use Rattle.new_core.proofs.obey.Tie as tie
+
+read-number-requires : tie.Need-read-number-requires
+read-number-requires c κs = search needs
+
+add-read-number : tie.Need-add-read-number
+add-read-number c = search needs
+
+read-number-requires-2 : tie.Need-read-number-requires-2
+read-number-requires-2 c κs = search needs
+
+read-instruction-requires : tie.Need-read-instruction-requires
+read-instruction-requires c κs = search needs
+
+do-word-requires : tie.Need-do-word-requires
+do-word-requires c κs = search needs
+
+link-requires : tie.Need-link-requires
+link-requires c κs = search needs
+
+read-instruction-requires-2 : tie.Need-read-instruction-requires-2
+read-instruction-requires-2 c κs = search needs
+
+add-read-number-2 : tie.Need-add-read-number-2
+add-read-number-2 c = search needs
+
+read-number-requires-3 : tie.Need-read-number-requires-3
+read-number-requires-3 c κs = search needs
+
+hold-requires : tie.Need-hold-requires
+hold-requires c κs = search needs
+
+add-read-number-3 : tie.Need-add-read-number-3
+add-read-number-3 c = search needs
+
+read-number-requires-4 : tie.Need-read-number-requires-4
+read-number-requires-4 c κs = search needs
+
+choose-requires : tie.Need-choose-requires
+choose-requires c κs = search needs
+
+go-to-requires : tie.Need-go-to-requires
+go-to-requires c κs = search needs
+
+go-held-requires : tie.Need-go-held-requires
+go-held-requires c κs = search needs
+
+add-read-number-4 : tie.Need-add-read-number-4
+add-read-number-4 c = search needs
+
+read-number-requires-5 : tie.Need-read-number-requires-5
+read-number-requires-5 c κs = search needs
+
+stop-as-requires : tie.Need-stop-as-requires
+stop-as-requires c κs = search needs
+
+bad-requires : tie.Need-bad-requires
+bad-requires c κs = search needs
+
+same-length : tie.Need-same-length
+same-length c = search needs
+
+returns : tie.Need-returns
+unfolding does recordOf doesWord
+returns c = rw (read-as (c .before .before .before .before .before .before .before .before .before .before .before .before .before .args .records .now) (c .before .before .before .before .before .before .before .before .before .before .before .before .before .args .at) (c .before .before .before .before .before .before .before .before .before .before .before .before .before .args .c .at .0) _ _ (c .before .before .before .before .before .before .before .before .before .before .before .before .before .pre .0) (c .before .before .before .before .before .before .before .before .read-number .ensures) (c .before .before .before .before .before .before .before .read-number2 .ensures), c .before .before .before .before .before .before .match .keys1, ← c .before .before .before .before .before .read-instruction .ensures) (c .before .before .do-word .ensures)
+
+returns-2 : tie.Need-returns-2
+unfolding does recordOf settle
+returns-2 c = rw (read-as (c .before .before .before .before .before .before .before .before .before .args .records .now) (c .before .before .before .before .before .before .before .before .before .args .at) (c .before .before .before .before .before .before .before .before .before .args .c .at .0) _ _ (c .before .before .before .before .before .before .before .before .before .pre .0) (c .before .before .before .before .read-number .ensures) (c .before .before .before .read-number2 .ensures), c .before .before .match .keys2) (c .link .ensures _)
+
+returns-3 : tie.Need-returns-3
+unfolding does recordOf
+returns-3 c = rw (read-as (c .before .before .before .before .before .before .before .before .before .before .before .args .records .now) (c .before .before .before .before .before .before .before .before .before .before .before .args .at) (c .before .before .before .before .before .before .before .before .before .before .before .args .c .at .0) _ _ (c .before .before .before .before .before .before .before .before .before .before .before .pre .0) (c .before .before .before .before .before .before .read-number .ensures) (c .before .before .before .before .before .read-number2 .ensures), c .before .before .before .before .match .keys3, ← c .before .before .before .read-instruction2 .ensures, ← c .before .before .read-number3 .ensures) (c .hold .ensures _)
+
+returns-4 : tie.Need-returns-4
+unfolding does recordOf
+returns-4 c = rw (read-as (c .before .before .before .before .before .before .before .before .before .args .records .now) (c .before .before .before .before .before .before .before .before .before .args .at) (c .before .before .before .before .before .before .before .before .before .args .c .at .0) _ _ (c .before .before .before .before .before .before .before .before .before .pre .0) (c .before .before .before .before .read-number .ensures) (c .before .before .before .read-number2 .ensures), c .before .before .match .keys4, ← c .before .read-number4 .ensures) (c .choose .ensures _ _)
+
+returns-5 : tie.Need-returns-5
+unfolding does recordOf settle
+returns-5 c = rw (read-as (c .before .before .before .before .before .before .before .before .args .records .now) (c .before .before .before .before .before .before .before .before .args .at) (c .before .before .before .before .before .before .before .before .args .c .at .0) _ _ (c .before .before .before .before .before .before .before .before .pre .0) (c .before .before .before .read-number .ensures) (c .before .before .read-number2 .ensures), c .before .match .keys5) (c .go-to .ensures _ _)
+
+returns-6 : tie.Need-returns-6
+unfolding does recordOf
+returns-6 c = rw (read-as (c .before .before .before .before .before .before .before .before .args .records .now) (c .before .before .before .before .before .before .before .before .args .at) (c .before .before .before .before .before .before .before .before .args .c .at .0) _ _ (c .before .before .before .before .before .before .before .before .pre .0) (c .before .before .before .read-number .ensures) (c .before .before .read-number2 .ensures), c .before .match .keys6) (c .go-held .ensures _ _)
+
+returns-7 : tie.Need-returns-7
+unfolding does recordOf
+returns-7 c = rw (read-as (c .before .before .before .before .before .before .before .before .before .args .records .now) (c .before .before .before .before .before .before .before .before .before .args .at) (c .before .before .before .before .before .before .before .before .before .args .c .at .0) _ _ (c .before .before .before .before .before .before .before .before .before .pre .0) (c .before .before .before .before .read-number .ensures) (c .before .before .before .read-number2 .ensures), c .before .before .match .keys7, ← c .before .read-number5 .ensures) (c .stop-as .ensures _ _)
+
+returns-8 : tie.Need-returns-8
+unfolding does
+returns-8 c = rw (read-as (c .before .before .before .before .before .before .before .before .args .records .now) (c .before .before .before .before .before .before .before .before .args .at) (c .before .before .before .before .before .before .before .before .args .c .at .0) _ _ (c .before .before .before .before .before .before .before .before .pre .0) (c .before .before .before .read-number .ensures) (c .before .before .read-number2 .ensures), no-kind _ _ _ (c .before .match .rest)) (c .bad .ensures _ _)
+
+pub obey-spec : {M : Type 1} → statement M
+obey-spec =
+    tie.close
+    (tie.spec
+    read-number-requires
+    add-read-number
+    read-number-requires-2
+    read-instruction-requires
+    do-word-requires
+    link-requires
+    read-instruction-requires-2
+    add-read-number-2
+    read-number-requires-3
+    hold-requires
+    add-read-number-3
+    read-number-requires-4
+    choose-requires
+    go-to-requires
+    go-held-requires
+    add-read-number-4
+    read-number-requires-5
+    stop-as-requires
+    bad-requires
+    same-length
+    returns
+    returns-2
+    returns-3
+    returns-4
+    returns-5
+    returns-6
+    returns-7
+    returns-8)

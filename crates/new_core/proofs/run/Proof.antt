@@ -1,0 +1,53 @@
+use Rattle.model.proofs.Runs.{lent-back}
+use Rattle.model.specs.Cases.{given}
+use Rattle.model.specs.Run.{zeroed}
+use Rattle.model.specs.NewCore.{newNext}
+use Rattle.model.specs.NewState.{newState}
+use lib.Seq.{length-take-le}
+use native.Mathlib.Omega.{arith}
+use mathlib.Core.Path.{sym}
+use borrow.Author.Needs.{needs}
+use Rattle.new_core.proofs.run.Statement.{statement}
+use Rattle.new_core.proofs.run.Tie as tie
+
+array-write-regs : tie.Need-array-write-regs
+array-write-regs c = search needs
+
+data-length-requires : tie.Need-data-length-requires
+data-length-requires c κs = search needs
+
+slice-relend-prefix-steps : tie.Need-slice-relend-prefix-steps
+slice-relend-prefix-steps c = search needs
+
+slice-aggregate-steps : tie.Need-slice-aggregate-steps
+slice-aggregate-steps c = sym (length-take-le _ _ (omega (arith, c .before .before .data-length .ensures)))
+
+steps-requires : tie.Need-steps-requires
+steps-requires c κs = search needs
+
+same-length : tie.Need-same-length
+same-length c = search needs
+
+returns : tie.Need-returns
+unfolding zeroed
+returns c = let k = c .before .before .before .before .before .before .before .before .before .before .before .args in
+    lent-back (newNext (k .records .now) (k .places .now) (k .base) (k .size) (k .db)) (k .count) (newState (zeroed (k .core .registers)) (k .core .control))
+    (newState (c .before .before .steps .last .1 .1 .1 .1 .1 .0) (c .before .before .steps .result))
+    (k .area .now)
+    (c .before .before .steps .last .1 .1 .1 .1 .1 .1 .1 .0)
+    _
+    (c .before .before .before .before .before .data-length .ensures)
+    (c .before .area .given .0)
+    (c .before .before .steps .ensures)
+
+pub run-spec : {M : Type 1} → statement M
+run-spec =
+    tie.close
+    (tie.spec
+    array-write-regs
+    data-length-requires
+    slice-relend-prefix-steps
+    slice-aggregate-steps
+    steps-requires
+    same-length
+    returns)

@@ -1,0 +1,84 @@
+use Rattle.machine.specs.Ends.{left}
+use Rattle.model.specs.Records.{rowsIn}
+use Rattle.model.specs.NewCore.{seek}
+use Rattle.new_core.specs.Sought.{soughtOf}
+use borrow.Author.Needs.{needs}
+use lib.ListN.{length, drop}
+use native.Mathlib.Omega.{arith}
+use mathlib.Core.Logic.{⊎-elim}
+use mathlib.Core.Path.{_≡_, refl, sym, _∙_}
+use Prim.Native.Nat.{_-_, _/_, _≤_, _<_}
+use Rattle.new_core.proofs.Records.{sought-here, not-plain, elsewhere, not-anywhere}
+use Rattle.new_core.proofs.search.Statement.{statement}
+use Rattle.new_core.proofs.search.Tie as tie
+
+abbrev Inv-loop : tie.InvT-loop
+Inv-loop places a n i₀ i = (i ≤ length places / 16) × (seek (drop i (rowsIn places)) a ≡ seek (rowsIn places) a)
+
+abbrev μ-loop : tie.MeasureT-loop
+μ-loop places a n i₀ i = length places / 16 - i
+
+loop-holds : tie.Need-loop-holds Inv-loop μ-loop
+loop-holds c = (omega arith, refl)
+
+mul-at : tie.Need-mul-at Inv-loop μ-loop
+mul-at c = search needs
+
+read-number-requires : tie.Need-read-number-requires Inv-loop μ-loop
+read-number-requires c κs = search needs
+
+add-read-number : tie.Need-add-read-number Inv-loop μ-loop
+add-read-number c = search needs
+
+read-number-requires-2 : tie.Need-read-number-requires-2 Inv-loop μ-loop
+read-number-requires-2 c κs = search needs
+
+add-read-number-2 : tie.Need-add-read-number-2 Inv-loop μ-loop
+add-read-number-2 c = search needs
+
+read-number-requires-3 : tie.Need-read-number-requires-3 Inv-loop μ-loop
+read-number-requires-3 c κs = search needs
+
+returns : tie.Need-returns Inv-loop μ-loop
+unfolding soughtOf
+returns c = let b = c .before .before .before .before .before .before .loop in
+    rw (c .read-number3 .ensures) (sym (sought-here _ _ _ (omega arith) (sym (c .before .before .read-number2 .ensures) ∙ c .before .if2 .taken) (sym (c .before .before .before .before .read-number .ensures) ∙ c .before .before .before .if1 .taken)) ∙ b .inv .1)
+
+add-i : tie.Need-add-i Inv-loop μ-loop
+add-i c = search needs
+
+loop-less : tie.Need-loop-less Inv-loop μ-loop
+loop-less c = search needs
+
+loop-again : tie.Need-loop-again Inv-loop μ-loop
+loop-again c = let b = c .before .before .before .loop in
+    let k = c .before .before .before .before .before .args in
+    let h : b .i < length (k .places .now) / 16 = omega arith in
+    ⊎-elim (λ w. (omega arith, not-plain (k .places .now) (k .a) (b .i) h (λ e. w .2 .left (w .1 .ensures ∙ e)) ∙ b .inv .1))
+    (λ w. (omega arith, elsewhere (k .places .now) (k .a) (b .i) h (λ e. w .left (c .before .read-number .ensures ∙ e)) ∙ b .inv .1))
+    (c .if1 .came)
+
+returns-2 : tie.Need-returns-2 Inv-loop μ-loop
+unfolding soughtOf
+returns-2 c = let b = c .before .loop in
+    let k = c .before .before .before .args in
+    sym (not-anywhere (k .places .now) (k .a) (b .i) (omega arith)) ∙ b .inv .1
+
+pub search-spec : {M : Type 1} → statement M
+search-spec =
+    tie.close
+    (tie.spec
+    Inv-loop
+    μ-loop
+    loop-holds
+    mul-at
+    read-number-requires
+    add-read-number
+    read-number-requires-2
+    add-read-number-2
+    read-number-requires-3
+    returns
+    add-i
+    loop-less
+    loop-again
+    returns-2)

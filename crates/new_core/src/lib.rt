@@ -1,0 +1,393 @@
+// The new core: records and one program counter, a record at a time.
+ghost use mathlib.Core.Path.{_≡_};
+ghost use Prim.Native.Nat.{ℕ, _+_, _*_, _≤_};
+ghost use mathlib.Core.List.{List};
+ghost use mathlib.Core.Option.{some};
+ghost use lib.ListN.{length};
+ghost use Rattle.numbers.specs.Choice.{pick};
+ghost use Rattle.machine.specs.Ends.{ending, endingOf, go, halt, isGoing, live, left, settle, within};
+ghost use Rattle.machine.specs.Registers.{putRegister};
+ghost use Rattle.machine.specs.Effect.{machine, effectOf};
+ghost use Rattle.model.specs.Run.{step, run, zeroed, dataOf, beyond, lent};
+ghost use Rattle.model.specs.OldCore.{transferOf, inImage};
+ghost use Rattle.model.specs.Places.{whichOf, idleBicc};
+ghost use Rattle.model.specs.Records.{rowsIn, recordAt};
+ghost use Rattle.model.specs.NewCore.{new, following, fit, holds, chooses, seek, lost, goes, stops, does, newNext, newBegun};
+ghost use Rattle.model.specs.NewState.{newOf, newState};
+ghost use Rattle.new_core.specs.Sought.{soughtOf};
+use machine::End;
+use machine::Flags;
+use machine::SourcePc;
+use machine::effect::Effect;
+use machine::effect::perform;
+use machine::registers::address;
+use machine::registers::put;
+use model::NewControl;
+use model::NewCore;
+use model::TargetPc;
+use words::Instruction;
+
+// The run goes on at a record.
+fn go_to(c: NewControl, f: Flags, to: u32) -> NewControl
+    ensures { λ r. ⌜ ((rs a : List ℕ) → newState rs r a ≡ live (new (machine rs (f .nzvc) a) to (c .held .0))) ⌝ }
+{
+    let h = c.held;
+    NewControl {
+        flags: f,
+        at: TargetPc(to),
+        held: h,
+        end: End::Going,
+    }
+}
+
+// The run goes on at the next record.
+fn follow(c: NewControl, f: Flags) -> NewControl
+    ensures { λ r. ⌜ ((rs a : List ℕ) → newState rs r a ≡ live (following (c .at .0) (c .held .0) (machine rs (f .nzvc) a))) ⌝ }
+{
+    let k = c.at;
+    go_to(c, f, numbers::add(k.0, 1))
+}
+
+// The run ends, and nothing else changes.
+fn stop(c: NewControl, e: End) -> NewControl
+    ensures { λ r. ⌜ ((rs a : List ℕ) → newState rs r a ≡ left (newOf rs c a) e) ⌝ }
+{
+    let f = c.flags;
+    let k = c.at;
+    let h = c.held;
+    NewControl {
+        flags: f,
+        at: k,
+        held: h,
+        end: e,
+    }
+}
+
+// The record at hand is a bad one.
+fn bad(c: NewControl) -> NewControl
+    ensures { λ r. ⌜ ((rs a : List ℕ) → newState rs r a ≡ settle (newOf rs c a) (halt (ending 7 (c .at .0)))) ⌝ }
+{
+    let k = c.at;
+    stop(c, End::BadRecord(k.0))
+}
+
+// After a word that does not transfer control: the next record, or the end.
+fn finish(c: NewControl, e: Effect) -> NewControl
+    ensures { λ r. ⌜ ((rs a : List ℕ) → newState rs r a ≡ pick (isGoing (e .end)) (live (following (c .at .0) (c .held .0) (machine rs (e .flags .nzvc) a))) (left (newOf rs c a) (e .end))) ⌝ }
+{
+    let f = e.flags;
+    let g = e.end;
+    if machine::is_going(g) {
+        return follow(c, f);
+    }
+    stop(c, g)
+}
+
+// Of the branches a record may do one that is never taken and annuls nothing.
+fn do_branch(c: NewControl, cond: u32, annul: bool) -> NewControl
+    ensures { λ r. ⌜ ((rs a : List ℕ) → newState rs r a ≡ settle (newOf rs c a) (pick (idleBicc (whichOf cond) annul) (go (following (c .at .0) (c .held .0) (machine rs (c .flags .nzvc) a))) (halt (ending 7 (c .at .0))))) ⌝ }
+{
+    let f = c.flags;
+    if annul {
+        return bad(c);
+    }
+    if cond == 0 {
+        return follow(c, f);
+    }
+    bad(c)
+}
+
+// Kind 1: do the word.
+fn do_word(
+    i: Instruction,
+    db: u32,
+    regs: &mut [u32; 32],
+    c: NewControl,
+    area: &mut [u8],
+) -> NewControl
+    ensures { λ r. ⌜ newState (now (regs .exit)) r (now (area .exit)) ≡ settle (newOf (now (regs .entry)) c (now (area .entry))) (pick (fit (transferOf i)) (within (following (c .at .0) (c .held .0)) (effectOf db i (machine (now (regs .entry)) (c .flags .nzvc) (now (area .entry))))) (halt (ending 7 (c .at .0)))) ⌝ }
+{
+    let f = c.flags;
+    match i {
+        Instruction::Illegal => bad(c),
+        Instruction::Call(disp) => bad(c),
+        Instruction::Jmpl(rd, rs1, x) => bad(c),
+        Instruction::Bicc(cond, annul, disp) => do_branch(c, cond, annul),
+        _ => finish(c, perform(i, db, regs, f, area)),
+    }
+}
+
+// Kind 2: register 15 := first.
+fn link(first: u32, regs: &mut [u32; 32], c: NewControl) -> NewControl
+    ensures { λ r. ⌜ ((a : List ℕ) → newState (now (regs .exit)) r a ≡ live (following (c .at .0) (c .held .0) (machine (putRegister (now (regs .entry)) 15 first) (c .flags .nzvc) a))) ⌝ }
+{
+    let f = c.flags;
+    put(regs, 15, first);
+    follow(c, f)
+}
+
+// Kind 3: hold where the jmpl leads. The address is taken from the registers before rd is written.
+fn hold(i: Instruction, source: u32, regs: &mut [u32; 32], c: NewControl) -> NewControl
+    ensures { λ r. ⌜ ((a : List ℕ) → newState (now (regs .exit)) r a ≡ settle (newOf (now (regs .entry)) c a) (holds (transferOf i) source (machine (now (regs .entry)) (c .flags .nzvc) a) (c .at .0))) ⌝ }
+{
+    let f = c.flags;
+    let k = c.at;
+    match i {
+        Instruction::Jmpl(rd, rs1, x) => {
+            let t = address(regs, rs1, x);
+            if t % 4 == 0 {
+                put(regs, rd, source);
+                let n = numbers::add(k.0, 1);
+                return NewControl {
+                    flags: f,
+                    at: TargetPc(n),
+                    held: SourcePc(t),
+                    end: End::Going,
+                };
+            }
+            stop(c, End::Misaligned(t))
+        }
+        _ => bad(c),
+    }
+}
+
+// Kind 4: go to a record if a condition holds.
+fn choose(cond: u32, to: u32, c: NewControl) -> NewControl
+    ensures { λ r. ⌜ ((rs a : List ℕ) → newState rs r a ≡ settle (newOf rs c a) (chooses cond to (machine rs (c .flags .nzvc) a) (c .at .0) (c .held .0))) ⌝ }
+{
+    let f = c.flags;
+    if cond <= 15 {
+        if machine::effect::holds(f, cond) {
+            return go_to(c, f, to);
+        }
+        return follow(c, f);
+    }
+    bad(c)
+}
+
+// What is found of an address: the first record of its lowest-numbered plain place.
+pub enum Sought {
+    Record(u32),
+    Nothing,
+}
+
+// Searches the place table to its end.
+fn search(places: &[u8], a: u32) -> Sought
+    ensures { λ r. ⌜ soughtOf r ≡ seek (rowsIn (now (places .entry))) a ⌝ }
+{
+    let n = places.len() / 16;
+    let mut i: usize = 0;
+    while i < n {
+        let at = 16 * i;
+        if numbers::read_number(places, at) == a {
+            if numbers::read_number(places, at + 8) == 0 {
+                return Sought::Record(numbers::read_number(places, at + 12));
+            }
+        }
+        i += 1;
+    }
+    Sought::Nothing
+}
+
+// Whether an address lies in the image.
+fn in_image(base: u32, size: u32, a: u32) -> bool
+    ensures { λ r. ⌜ r ≡ inImage base size a ⌝ }
+{
+    numbers::subtract(a, base) as u64 + 4 <= size as u64
+}
+
+// How a run ends at an address that has no plain place.
+fn lost_at(base: u32, size: u32, a: u32) -> End
+    ensures { λ r. ⌜ endingOf r ≡ lost (inImage base size a) a ⌝ }
+{
+    if in_image(base, size, a) {
+        return End::NoPlace(a);
+    }
+    End::Outside(a)
+}
+
+// Kind 6: go by the held address.
+fn go_held(places: &[u8], base: u32, size: u32, c: NewControl) -> NewControl
+    ensures { λ r. ⌜ ((rs a : List ℕ) → newState rs r a ≡ settle (newOf rs c a) (goes (seek (rowsIn (now (places .entry))) (c .held .0)) (inImage base size (c .held .0)) (machine rs (c .flags .nzvc) a) (c .held .0))) ⌝ }
+{
+    let f = c.flags;
+    let h = c.held;
+    let s = search(places, h.0);
+    match s {
+        Sought::Record(to) => go_to(c, f, to),
+        Sought::Nothing => stop(c, lost_at(base, size, h.0)),
+    }
+}
+
+// Kind 7: end as first says, at address second.
+fn stop_as(first: u32, second: u32, c: NewControl) -> NewControl
+    ensures { λ r. ⌜ ((rs a : List ℕ) → newState rs r a ≡ settle (newOf rs c a) (stops first second (c .at .0))) ⌝ }
+{
+    match first {
+        2 => stop(c, End::Outside(second)),
+        3 => stop(c, End::IllegalWord(second)),
+        _ => bad(c),
+    }
+}
+
+// Does the record that starts at a position. Of its numbers only those are read that its kind names.
+fn obey(
+    records: &[u8],
+    at: usize,
+    places: &[u8],
+    base: u32,
+    size: u32,
+    db: u32,
+    regs: &mut [u32; 32],
+    c: NewControl,
+    area: &mut [u8],
+) -> NewControl
+    requires { ⌜ (at ≡ 12 * c .at .0) × (at + 12 ≤ length (now records)) ⌝ }
+    ensures { λ r. ⌜ newState (now (regs .exit)) r (now (area .exit)) ≡ settle (newOf (now (regs .entry)) c (now (area .entry))) (does (rowsIn (now (places .entry))) base size db (some (recordAt (now (records .entry)) (c .at .0))) (machine (now (regs .entry)) (c .flags .nzvc) (now (area .entry))) (c .at .0) (c .held .0)) ⌝ }
+{
+    let f = c.flags;
+    let kind = numbers::read_number(records, at);
+    let first = numbers::read_number(records, at + 4);
+    match kind {
+        1 => do_word(words::read_instruction(first), db, regs, c, area),
+        2 => link(first, regs, c),
+        3 => hold(
+            words::read_instruction(first),
+            numbers::read_number(records, at + 8),
+            regs,
+            c,
+        ),
+        4 => choose(first, numbers::read_number(records, at + 8), c),
+        5 => go_to(c, f, first),
+        6 => go_held(places, base, size, c),
+        7 => stop_as(first, numbers::read_number(records, at + 8), c),
+        _ => bad(c),
+    }
+}
+
+// A step on an ended state changes nothing; a record past the last is bad.
+fn step_on(
+    records: &[u8],
+    places: &[u8],
+    base: u32,
+    size: u32,
+    db: u32,
+    regs: &mut [u32; 32],
+    c: NewControl,
+    area: &mut [u8],
+) -> NewControl
+    ensures { λ r. ⌜ newState (now (regs .exit)) r (now (area .exit)) ≡ step (newNext (now (records .entry)) (now (places .entry)) base size db) (newState (now (regs .entry)) c (now (area .entry))) ⌝ }
+{
+    let e = c.end;
+    if machine::is_going(e) {
+        let k = c.at;
+        let at = 12 * (k.0 as usize);
+        if at + 12 <= records.len() {
+            return obey(records, at, places, base, size, db, regs, c, area);
+        }
+        return bad(c);
+    }
+    c
+}
+
+fn steps(
+    records: &[u8],
+    places: &[u8],
+    base: u32,
+    size: u32,
+    db: u32,
+    regs: &mut [u32; 32],
+    c: NewControl,
+    area: &mut [u8],
+    count: u16,
+) -> NewControl
+    ensures { λ r. ⌜ newState (now (regs .exit)) r (now (area .exit)) ≡ run (newNext (now (records .entry)) (now (places .entry)) base size db) count (newState (now (regs .entry)) c (now (area .entry))) ⌝ }
+{
+    let mut s = c;
+    let mut i: u16 = 0;
+    while i < count {
+        s = step_on(records, places, base, size, db, regs, s, area);
+        i += 1;
+    }
+    s
+}
+
+// At a record, with nothing held.
+fn begun(f: Flags, to: u32, e: End) -> NewControl
+    ensures { λ r. ⌜ ((rs a : List ℕ) → newState rs r a ≡ left (new (machine rs (f .nzvc) a) to 0) e) ⌝ }
+{
+    NewControl {
+        flags: f,
+        at: TargetPc(to),
+        held: SourcePc(0),
+        end: e,
+    }
+}
+
+// At the first record of the address's lowest-numbered plain place, or ended where there is none; registers and flags stay.
+pub fn begin(places: &[u8], base: u32, size: u32, core: NewCore, a: u32) -> NewCore
+    ensures { λ r. ⌜ ((area : List ℕ) → newState (r .registers) (r .control) area ≡ newBegun (now (places .entry)) base size a (machine (zeroed (core .registers)) (core .control .flags .nzvc) area)) ⌝ }
+{
+    let k = core.control;
+    let f = k.flags;
+    let mut regs = core.registers;
+    regs[0] = 0;
+    let s = search(places, a);
+    let c = match s {
+        Sought::Record(to) => begun(f, to, End::Going),
+        Sought::Nothing => begun(f, 0, lost_at(base, size, a)),
+    };
+    NewCore {
+        registers: regs,
+        control: c,
+    }
+}
+
+// count records, or fewer where the run ends.
+pub fn run(
+    records: &[u8],
+    places: &[u8],
+    base: u32,
+    size: u32,
+    db: u32,
+    core: NewCore,
+    area: &mut [u8],
+    count: u16,
+) -> NewCore
+    ensures { λ r. ⌜ lent (newState (r .registers) (r .control) (dataOf (now (area .exit)))) (beyond (now (area .exit))) ≡ lent (run (newNext (now (records .entry)) (now (places .entry)) base size db) count (newState (zeroed (core .registers)) (core .control) (dataOf (now (area .entry))))) (beyond (now (area .entry))) ⌝ }
+{
+    let c = core.control;
+    let mut regs = core.registers;
+    regs[0] = 0;
+    let n = machine::data_area::data_length(area.len());
+    let k = steps(
+        records,
+        places,
+        base,
+        size,
+        db,
+        &mut regs,
+        c,
+        &mut area[..n],
+        count,
+    );
+    NewCore {
+        registers: regs,
+        control: k,
+    }
+}
+
+// One step.
+pub fn step(
+    records: &[u8],
+    places: &[u8],
+    base: u32,
+    size: u32,
+    db: u32,
+    core: NewCore,
+    area: &mut [u8],
+) -> NewCore
+    ensures { λ r. ⌜ lent (newState (r .registers) (r .control) (dataOf (now (area .exit)))) (beyond (now (area .exit))) ≡ lent (step (newNext (now (records .entry)) (now (places .entry)) base size db) (newState (zeroed (core .registers)) (core .control) (dataOf (now (area .entry))))) (beyond (now (area .entry))) ⌝ }
+{
+    run(records, places, base, size, db, core, area, 1)
+}

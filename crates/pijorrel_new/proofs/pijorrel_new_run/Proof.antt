@@ -1,0 +1,30 @@
+use Rattle.machine.specs.Ends.{State}
+use Rattle.model.specs.Run.{run, dataOf, beyond, lent}
+use Rattle.model.specs.NewCore.{newNext, New}
+use Rattle.pijorrel_new.proofs.States.{after-run}
+use mathlib.Core.Path.{ap, _∙_}
+use borrow.Author.Needs.{needs}
+use Rattle.pijorrel_new.proofs.pijorrel_new_run.Statement.{statement}
+use Rattle.pijorrel_new.proofs.pijorrel_new_run.Tie as tie
+
+decode-requires : tie.Need-decode-requires
+decode-requires c κs = search needs
+
+run-requires : tie.Need-run-requires
+run-requires c κs = search needs
+
+encode-requires : tie.Need-encode-requires
+encode-requires c κs = search needs
+
+same-length : tie.Need-same-length
+same-length c = search needs
+
+returns : tie.Need-returns
+returns c = let k = c .before .before .before .before .before .before .before .before .before .before .before .args in
+    after-run _ _ _ _ _ _ _ _ (c .encode .ensures .0) (c .encode .ensures .1 _)
+    (c .before .before .before .before .run .ensures
+    ∙ ap (λ (x : State New). lent (run (newNext (k .records .now) (k .places .now) (k .base) (k .size) (k .db)) (k .count) x) (beyond (k .area .now))) (c .before .before .before .before .before .before .decode .ensures (dataOf (k .area .now))))
+
+pub pijorrel-new-run-spec : {M : Type 1} → statement M
+pijorrel-new-run-spec =
+    tie.close (tie.spec decode-requires run-requires encode-requires same-length returns)

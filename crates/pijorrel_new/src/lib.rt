@@ -1,0 +1,92 @@
+// The new core for a loader in C: numbers and byte areas, numbers big-endian. Any bytes are a state.
+ghost use mathlib.Core.Path.{_≡_};
+ghost use mathlib.Core.List.{List, []};
+ghost use Prim.Native.Nat.{ℕ};
+ghost use Rattle.machine.specs.Ends.{ending, endingOf};
+ghost use Rattle.model.specs.Run.{run, zeroed, dataOf, beyond};
+ghost use Rattle.model.specs.NewCore.{newNext, newBegun};
+ghost use Rattle.model.specs.NewState.{newState};
+ghost use Rattle.model.specs.StateBytes.{machineIn, newIn, newBytes, after, newAfter};
+use machine::Ended;
+use machine::Flags;
+use machine::SourcePc;
+use model::NewControl;
+use model::NewCore;
+use model::TargetPc;
+
+// The state that 148 bytes stand for.
+fn decode(state: &[u8; 148]) -> NewCore
+    ensures { λ r. ⌜ ((a : List ℕ) → newState (zeroed (r .registers)) (r .control) a ≡ newIn (now (state .entry)) a) ⌝ }
+{
+    let core = NewCore::new();
+    let mut regs = core.registers;
+    numbers::read_numbers(state, &mut regs);
+    let nzvc = numbers::read_number(state, 128) % 16;
+    let k = TargetPc(numbers::read_number(state, 132));
+    let h = SourcePc(numbers::read_number(state, 136));
+    let e = machine::end_from(
+        numbers::read_number(state, 140),
+        numbers::read_number(state, 144),
+    );
+    let f = Flags { nzvc };
+    let c = NewControl {
+        flags: f,
+        at: k,
+        held: h,
+        end: e,
+    };
+    NewCore {
+        registers: regs,
+        control: c,
+    }
+}
+
+// The bytes of a state, and how it ended.
+fn encode(core: NewCore, state: &mut [u8; 148]) -> Ended
+    ensures { λ r. ⌜ (ending (r .end) (r .number) ≡ endingOf (core .control .end)) × ((a : List ℕ) → now (state .exit) ≡ newBytes (newState (core .registers) (core .control) a)) ⌝ }
+{
+    let regs = core.registers;
+    let c = core.control;
+    let f = c.flags;
+    let k = c.at;
+    let h = c.held;
+    let e = c.end;
+    let r = machine::numbers_of(e);
+    let rest = [f.nzvc, k.0, h.0, r.end, r.number];
+    numbers::write_numbers(state, 0, &regs);
+    numbers::write_numbers(state, 128, &rest);
+    r
+}
+
+// Begins at an address: registers and flags stay.
+#[no_mangle]
+pub extern "C" fn pijorrel_new_begin(
+    places: &[u8],
+    base: u32,
+    size: u32,
+    a: u32,
+    state: &mut [u8; 148],
+) -> Ended
+    ensures { λ r. ⌜ after (r .end) (r .number) (now (state .exit)) [] ≡ newAfter (newBegun (now (places .entry)) base size a (machineIn (now (state .entry)) [])) [] ⌝ }
+{
+    let core = new_core::begin(places, base, size, decode(state), a);
+    encode(core, state)
+}
+
+// Does count records, or fewer where the run ends.
+#[no_mangle]
+pub extern "C" fn pijorrel_new_run(
+    records: &[u8],
+    places: &[u8],
+    base: u32,
+    size: u32,
+    db: u32,
+    state: &mut [u8; 148],
+    area: &mut [u8],
+    count: u16,
+) -> Ended
+    ensures { λ r. ⌜ after (r .end) (r .number) (now (state .exit)) (now (area .exit)) ≡ newAfter (run (newNext (now (records .entry)) (now (places .entry)) base size db) count (newIn (now (state .entry)) (dataOf (now (area .entry))))) (beyond (now (area .entry))) ⌝ }
+{
+    let core = new_core::run(records, places, base, size, db, decode(state), area, count);
+    encode(core, state)
+}
