@@ -1,0 +1,375 @@
+//! 01, "The old core" and "Ends of a run": what both cores share. Registers, flags, the data area, how
+//! a run ended, and the effect of every word that does not transfer control.
+
+use crate::words::{condition_holds, Flags, Instruction, Load, Operand, Operation, Shift, Store};
+
+/// 01, "Ends of a run".
+#[derive(Clone, Copy, PartialEq, Eq, Debug)]
+pub enum End {
+    /// "0 still going"; "the number beside it is 0"
+    Going,
+    /// "1 Ticc taken, with (rs1 + operand) modulo 128."
+    Trap(u32),
+    /// "2 outside the image, with the address."
+    Outside(u32),
+    /// "3 illegal, with the address."
+    Illegal(u32),
+    /// "4 misaligned ... with the address."
+    Misaligned(u32),
+    /// "5 data access that does not fit, ... with the address."
+    DoesNotFit(u32),
+    /// "6 no place, with the address."
+    NoPlace(u32),
+    /// "7 a record past the last, of unknown kind, with an unfit word ..., a condition above 15 or a
+    /// kind 7 whose first is not 2 or 3, with the record number."
+    BadRecord(u32),
+}
+
+impl End {
+    /// The end and the number beside it.
+    pub fn numbers(self) -> (u32, u32) {
+        match self {
+            End::Going => (0, 0),
+            End::Trap(number) => (1, number),
+            End::Outside(address) => (2, address),
+            End::Illegal(address) => (3, address),
+            End::Misaligned(address) => (4, address),
+            End::DoesNotFit(address) => (5, address),
+            End::NoPlace(address) => (6, address),
+            End::BadRecord(record) => (7, record),
+        }
+    }
+
+    /// Ends 1 to 7 count as ended, with their number; any other counts as still going.
+    pub fn of_numbers(end: u32, number: u32) -> End {
+        match end {
+            1 => End::Trap(number),
+            2 => End::Outside(number),
+            3 => End::Illegal(number),
+            4 => End::Misaligned(number),
+            5 => End::DoesNotFit(number),
+            6 => End::NoPlace(number),
+            7 => End::BadRecord(number),
+            _ => End::Going,
+        }
+    }
+}
+
+/// "32 registers of 32 bits, flags N, Z, V, C"
+#[derive(Clone, PartialEq, Eq, Debug)]
+pub struct Machine {
+    registers: [u32; 32],
+    pub flags: Flags,
+}
+
+impl Machine {
+    /// "The start values are all registers 0 and all flags clear."
+    pub fn start() -> Machine {
+        Machine {
+            registers: [0; 32],
+            flags: Flags::CLEAR,
+        }
+    }
+
+    /// Any registers and flags; "Register 0 reads and shows as 0."
+    pub fn of(mut registers: [u32; 32], flags: Flags) -> Machine {
+        registers[0] = 0;
+        Machine { registers, flags }
+    }
+
+    pub fn registers(&self) -> &[u32; 32] {
+        &self.registers
+    }
+
+    pub fn read(&self, register: usize) -> u32 {
+        self.registers[register]
+    }
+
+    /// A write to register 0 is lost.
+    pub fn write(&mut self, register: usize, value: u32) {
+        if register != 0 {
+            self.registers[register] = value;
+        }
+    }
+
+    pub fn operand(&self, operand: Operand) -> u32 {
+        match operand {
+            Operand::Register(register) => self.read(register),
+            Operand::Constant(constant) => constant,
+        }
+    }
+
+    /// rs1 + operand: "Address sums are taken modulo 2^32."
+    pub fn sum(&self, rs1: usize, operand: Operand) -> u32 {
+        self.read(rs1).wrapping_add(self.operand(operand))
+    }
+}
+
+/// "Data is one lent area of 0 to 65,536 bytes at a data base, big-endian; bytes past that are no part
+/// of it."
+pub struct Area<'a> {
+    base: u32,
+    bytes: &'a mut [u8],
+}
+
+pub const DATA_LIMIT: usize = 65_536;
+
+impl<'a> Area<'a> {
+    pub fn lent(base: u32, bytes: &'a mut [u8]) -> Area<'a> {
+        let length = bytes.len().min(DATA_LIMIT);
+        Area {
+            base,
+            bytes: &mut bytes[..length],
+        }
+    }
+
+    pub fn bytes(&self) -> &[u8] {
+        self.bytes
+    }
+
+    /// "A data access of w bytes fits if (address − data base) modulo 2^32, plus w, is at most the
+    /// area's length. Alignment is tested before fit."
+    fn offset(&self, address: u32, width: u32) -> Result<usize, End> {
+        if !address.is_multiple_of(width) {
+            return Err(End::Misaligned(address));
+        }
+        let distance = address.wrapping_sub(self.base) as usize;
+        if distance + width as usize <= self.bytes.len() {
+            Ok(distance)
+        } else {
+            Err(End::DoesNotFit(address))
+        }
+    }
+
+    fn load(&self, address: u32, width: u32) -> Result<u32, End> {
+        let offset = self.offset(address, width)?;
+        let mut value = 0;
+        for byte in &self.bytes[offset..offset + width as usize] {
+            value = (value << 8) | *byte as u32;
+        }
+        Ok(value)
+    }
+
+    fn store(&mut self, address: u32, width: u32, value: u32) -> Result<(), End> {
+        let offset = self.offset(address, width)?;
+        let bytes = value.to_be_bytes();
+        self.bytes[offset..offset + width as usize].copy_from_slice(&bytes[4 - width as usize..]);
+        Ok(())
+    }
+}
+
+/// The effect of a word that does not transfer control. "Ends 1 to 7 change no register, flag, counter,
+/// held address or data." Calls, jmpl and branches are the cores' own; a Bicc 0 without annul is also a
+/// word that does nothing.
+pub fn effect(instruction: Instruction, machine: &mut Machine, area: &mut Area) -> Result<(), End> {
+    match instruction {
+        Instruction::Sethi { rd, value } => machine.write(rd, value),
+        Instruction::Bicc {
+            condition: 0,
+            annul: false,
+            ..
+        } => {}
+        Instruction::Arithmetic {
+            operation,
+            sets_flags,
+            rd,
+            rs1,
+            operand,
+        } => {
+            let (result, flags) = compute(
+                operation,
+                machine.read(rs1),
+                machine.operand(operand),
+                machine.flags.c,
+            );
+            machine.write(rd, result);
+            if sets_flags {
+                machine.flags = flags;
+            }
+        }
+        Instruction::Shift {
+            shift,
+            rd,
+            rs1,
+            operand,
+        } => {
+            // V8: the shift count is the low five bits of the operand.
+            let count = machine.operand(operand) % 32;
+            let value = machine.read(rs1);
+            let result = match shift {
+                Shift::Sll => value << count,
+                Shift::Srl => value >> count,
+                Shift::Sra => ((value as i32) >> count) as u32,
+            };
+            machine.write(rd, result);
+        }
+        // "1 Ticc taken, with (rs1 + operand) modulo 128."
+        Instruction::Ticc {
+            condition,
+            rs1,
+            operand,
+        } => {
+            if condition_holds(condition, machine.flags) {
+                return Err(End::Trap(machine.sum(rs1, operand) % 128));
+            }
+        }
+        Instruction::Load {
+            load,
+            rd,
+            rs1,
+            operand,
+        } => {
+            let address = machine.sum(rs1, operand);
+            let value = match load {
+                Load::Ld => area.load(address, 4)?,
+                Load::Ldub => area.load(address, 1)?,
+                Load::Ldsb => area.load(address, 1)? as u8 as i8 as u32,
+                Load::Lduh => area.load(address, 2)?,
+                Load::Ldsh => area.load(address, 2)? as u16 as i16 as u32,
+            };
+            machine.write(rd, value);
+        }
+        Instruction::Store {
+            store,
+            rd,
+            rs1,
+            operand,
+        } => {
+            let address = machine.sum(rs1, operand);
+            let width = match store {
+                Store::St => 4,
+                Store::Stb => 1,
+                Store::Sth => 2,
+            };
+            area.store(address, width, machine.read(rd))?;
+        }
+        Instruction::Call { .. } | Instruction::Jmpl { .. } | Instruction::Bicc { .. } => {
+            panic!("a word that transfers control")
+        }
+    }
+    Ok(())
+}
+
+/// The result of an arithmetic word and the flags that its flag form sets. Overflow and carry are taken
+/// from exact numbers; the tests hold them against V8's formulas over the three top bits.
+fn compute(operation: Operation, left: u32, right: u32, carry: bool) -> (u32, Flags) {
+    let logical = |result: u32| (result, flags_of(result, false, false));
+    match operation {
+        Operation::Add => sum(left, right, 0),
+        Operation::Addx => sum(left, right, carry as i64),
+        Operation::Sub => difference(left, right, 0),
+        Operation::Subx => difference(left, right, carry as i64),
+        Operation::And => logical(left & right),
+        Operation::Andn => logical(left & !right),
+        Operation::Or => logical(left | right),
+        Operation::Orn => logical(left | !right),
+        Operation::Xor => logical(left ^ right),
+        Operation::Xnor => logical(!(left ^ right)),
+    }
+}
+
+fn flags_of(result: u32, v: bool, c: bool) -> Flags {
+    Flags {
+        n: result >= 0x8000_0000,
+        z: result == 0,
+        v,
+        c,
+    }
+}
+
+fn sum(left: u32, right: u32, carry: i64) -> (u32, Flags) {
+    let signed = left as i32 as i64 + right as i32 as i64 + carry;
+    let unsigned = left as i64 + right as i64 + carry;
+    let result = unsigned as u32;
+    let overflow = i32::try_from(signed).is_err();
+    let carried = u32::try_from(unsigned).is_err();
+    (result, flags_of(result, overflow, carried))
+}
+
+/// 01 names "Carry of a subtraction as no borrow" among the wrong readings: carry is the borrow.
+fn difference(left: u32, right: u32, borrow: i64) -> (u32, Flags) {
+    let signed = left as i32 as i64 - right as i32 as i64 - borrow;
+    let unsigned = left as i64 - right as i64 - borrow;
+    let result = unsigned as u32;
+    let overflow = i32::try_from(signed).is_err();
+    let borrowed = unsigned < 0;
+    (result, flags_of(result, overflow, borrowed))
+}
+
+#[cfg(test)]
+mod tests {
+    use super::*;
+
+    /// V8's formulas for overflow and carry, from the top bits of both operands and of the result.
+    #[test]
+    fn flags_are_those_of_v8() {
+        let edges = [
+            0,
+            1,
+            2,
+            0x7FFF_FFFE,
+            0x7FFF_FFFF,
+            0x8000_0000,
+            0x8000_0001,
+            0xFFFF_FFFE,
+            0xFFFF_FFFF,
+            0x1234_5678,
+            0x89AB_CDEF,
+        ];
+        for left in edges {
+            for right in edges {
+                for carry in [false, true] {
+                    for (operation, adds, with) in [
+                        (Operation::Add, true, false),
+                        (Operation::Addx, true, carry),
+                        (Operation::Sub, false, false),
+                        (Operation::Subx, false, carry),
+                    ] {
+                        let (result, flags) = compute(operation, left, right, carry);
+                        let wrapped = if adds {
+                            left.wrapping_add(right).wrapping_add(with as u32)
+                        } else {
+                            left.wrapping_sub(right).wrapping_sub(with as u32)
+                        };
+                        assert_eq!(result, wrapped);
+                        let a = left >> 31 == 1;
+                        let b = right >> 31 == 1;
+                        let r = result >> 31 == 1;
+                        let (v, c) = if adds {
+                            (
+                                (a && b && !r) || (!a && !b && r),
+                                (a && b) || (!r && (a || b)),
+                            )
+                        } else {
+                            (
+                                (a && !b && !r) || (!a && b && r),
+                                (!a && b) || (r && (!a || b)),
+                            )
+                        };
+                        assert_eq!((flags.n, flags.z, flags.v, flags.c), (r, result == 0, v, c));
+                    }
+                }
+            }
+        }
+    }
+
+    #[test]
+    fn alignment_before_fit_and_no_wrap() {
+        let mut bytes = [1, 2, 3, 4];
+        let area = Area::lent(0xFFFF_FFFC, &mut bytes);
+        assert_eq!(area.load(0xFFFF_FFFC, 4), Ok(0x0102_0304));
+        assert_eq!(area.load(0, 1), Err(End::DoesNotFit(0)));
+        assert_eq!(area.load(2, 4), Err(End::Misaligned(2)));
+        assert_eq!(area.load(0xFFFF_FFFE, 2), Ok(0x0304));
+        assert_eq!(area.load(0xFFFF_FFFB, 1), Err(End::DoesNotFit(0xFFFF_FFFB)));
+    }
+
+    #[test]
+    fn bytes_past_the_limit_do_not_exist() {
+        let mut bytes = vec![7; DATA_LIMIT + 4];
+        let area = Area::lent(0, &mut bytes);
+        assert_eq!(area.bytes().len(), DATA_LIMIT);
+        assert_eq!(area.load(65_535, 1), Ok(7));
+        assert_eq!(area.load(65_536, 1), Err(End::DoesNotFit(65_536)));
+    }
+}

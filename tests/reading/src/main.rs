@@ -1,0 +1,539 @@
+//! The program over the reading.
+//!
+//! ```text
+//! reading cases SEED COUNT     random cases with their results, as lines
+//! reading claim SEED COUNT     demand 3's claim on COUNT random accepted images
+//! reading census SEED COUNT    what the random cases meet
+//! reading file KIND SEED COUNT random cases as a file of numbers; KIND is translate, old_core or
+//!                              new_core
+//! reading listing              01's listing of the image on standard input
+//! ```
+//!
+//! # The lines of `cases`
+//!
+//! One item per line: a key word, then decimal numbers, separated by single spaces. A case has these lines in
+//! this order; those marked * come any number of times, those marked ? once or not at all.
+//!
+//! ```text
+//!   case POSITION                       counted from 0
+//!   image WORD...                       the words of the image, maybe none
+//!   base BASE
+//!   data_base BASE
+//!   entries ENTRY...                    maybe none
+//!   places_length BYTES                 of the lent place table
+//!   records_length BYTES                of the lent record buffer
+//!   address ADDRESS                     where both cores begin
+//!   registers R0 ... R31                R0 is 0
+//!   flags NUMBER                        8N + 4Z + 2V + C
+//!   data BYTE...                        maybe none
+//!   cut K                               1 to 12
+//!   answer NUMBER FIRST SECOND          0, place count, record count; or refusal, detail, 0
+//! ? bad POSITION...                     refusal 3, count good: all bad positions; FIRST is the lowest
+//! * place ADDRESS NEXT KIND RECORD      in place order; none for a refusal
+//! * record KIND FIRST SECOND            in record order; none for a refusal
+//! * old ADDRESS R0 ... R31 FLAGS BYTE...   an entry of the old core's trail
+//!   old_close END NUMBER
+//!   old_steps STEPS...                  from each entry to the next; the last, to the close
+//! * new ADDRESS R0 ... R31 FLAGS BYTE...   an entry of the new core's trail over the translation
+//! ? new_close END NUMBER                only for an accepted image
+//! ? new_steps STEPS...
+//!   done
+//! ```
+//!
+//! Past the places and records shown, both lent buffers hold zeros. An accepted image's start has a plain
+//! place; a refused one's may be any address. The steps to the close are those up to the point where entry
+//! K + 1 would come, or up to the end, the step that ended the run included.
+
+use std::collections::BTreeMap;
+use std::env;
+use std::io::{self, BufWriter, Read, Write};
+use std::process::ExitCode;
+
+use reading::claim::{check, Accepted, Start};
+use reading::interface::{new_run_call, old_run_call, translate_call};
+use reading::machine::Area;
+use reading::new_core;
+use reading::old_core::{self, Image};
+use reading::places::made_by_the_rules;
+use reading::random::{
+    other_start, random_accepted, random_address, random_lengths, random_new_run_call,
+    random_old_run_call, random_plain, random_program, random_start, random_translate_call,
+    spoil_entries, Program, Random,
+};
+use reading::trails::{old_trail, Entry, Trail};
+use reading::translator::{answers, bytes, translate, Refusal, Translation};
+
+fn main() -> ExitCode {
+    let arguments: Vec<String> = env::args().skip(1).collect();
+    let words: Vec<&str> = arguments.iter().map(String::as_str).collect();
+    let number = |text: &str| text.parse::<u64>().ok();
+    let done = match words[..] {
+        ["cases", seed, count] => number(seed).zip(number(count)).map(|(s, c)| cases(s, c)),
+        ["claim", seed, count] => number(seed).zip(number(count)).map(|(s, c)| claim(s, c)),
+        ["census", seed, count] => number(seed).zip(number(count)).map(|(s, c)| census(s, c)),
+        ["file", kind, seed, count] if ["translate", "old_core", "new_core"].contains(&kind) => {
+            number(seed)
+                .zip(number(count))
+                .map(|(s, c)| file(kind, s, c))
+        }
+        ["listing"] => Some(listing()),
+        _ => None,
+    };
+    match done {
+        Some(Ok(code)) => code,
+        // A reader that has seen enough closes the pipe.
+        Some(Err(error)) if error.kind() == io::ErrorKind::BrokenPipe => ExitCode::SUCCESS,
+        Some(Err(error)) => {
+            eprintln!("reading: {error}");
+            ExitCode::from(2)
+        }
+        None => {
+            eprintln!("usage: reading cases SEED COUNT");
+            eprintln!("       reading claim SEED COUNT");
+            eprintln!("       reading census SEED COUNT");
+            eprintln!("       reading file translate|old_core|new_core SEED COUNT");
+            eprintln!("       reading listing < IMAGE");
+            ExitCode::from(2)
+        }
+    }
+}
+
+/// A case as `cases` prints it.
+struct Case {
+    program: Program,
+    places_length: usize,
+    records_length: usize,
+    start: Start,
+    cut: usize,
+    outcome: Result<Translation, Refusal>,
+    old: Trail,
+    new: Option<Trail>,
+}
+
+fn random_case(random: &mut Random) -> Case {
+    let mut program = random_program(random);
+    if random.chance(5) {
+        spoil_entries(random, &mut program);
+    }
+    let (places_length, records_length) = match program.translate() {
+        Ok(translation) if random.chance(60) => {
+            (translation.rows.len() * 16, translation.records.len() * 12)
+        }
+        _ => random_lengths(random, &program),
+    };
+    if random.chance(1) {
+        program.words.clear();
+    }
+    if random.chance(1) {
+        program.base = program.base.wrapping_add(random.pick(&[1, 2, 3]));
+    }
+    let image_bytes = program.image_bytes();
+    let image = Image {
+        bytes: &image_bytes,
+        base: program.base,
+    };
+    let entry_bytes = program.entry_bytes();
+    let outcome = translate(image, &entry_bytes, places_length, records_length);
+    let plain = program.plain_addresses();
+    let address = match outcome {
+        Ok(_) => random_plain(random, &program, &plain),
+        Err(_) if program.words.is_empty() => random.pick(&[0, program.base, 2]),
+        Err(_) => random_address(random, &program, &plain),
+    };
+    let mut start = if program.words.is_empty() {
+        Start {
+            address,
+            registers: [0; 32],
+            flags: random.below(16),
+            data: vec![],
+        }
+    } else {
+        random_start(random, &program, &plain, address)
+    };
+    start.registers[0] = 0;
+    let cut = random.between(1, 12) as usize;
+
+    let mut data = start.data.clone();
+    let mut area = Area::lent(program.data_base, &mut data);
+    let state = old_core::begin(start.machine(), start.address);
+    let old = old_trail(image, state, &mut area, cut);
+    let new = outcome.as_ref().ok().map(|translation| {
+        let made = made_by_the_rules(image, &program.entries);
+        Accepted {
+            image,
+            program: new_core::Program {
+                records: &translation.record_bytes(),
+                places: &translation.place_bytes(),
+                base: program.base,
+                image_length: image_bytes.len() as u32,
+            },
+            made: &made,
+            data_base: program.data_base,
+        }
+        .new_trail(&start, cut)
+    });
+    Case {
+        program,
+        places_length,
+        records_length,
+        start,
+        cut,
+        outcome,
+        old,
+        new,
+    }
+}
+
+fn line<T: ToString>(
+    out: &mut impl Write,
+    key: &str,
+    numbers: impl IntoIterator<Item = T>,
+) -> io::Result<()> {
+    let mut text = key.to_string();
+    for number in numbers {
+        text.push(' ');
+        text += &number.to_string();
+    }
+    writeln!(out, "{text}")
+}
+
+fn print_start(out: &mut impl Write, start: &Start) -> io::Result<()> {
+    line(out, "address", [start.address])?;
+    line(out, "registers", start.registers)?;
+    line(out, "flags", [start.flags])?;
+    line(out, "data", &start.data)
+}
+
+fn print_trail(out: &mut impl Write, name: &str, trail: &Trail) -> io::Result<()> {
+    for entry in &trail.entries {
+        line(out, name, entry_numbers(entry))?;
+    }
+    line(
+        out,
+        &format!("{name}_close"),
+        [trail.close.0, trail.close.1],
+    )?;
+    line(out, &format!("{name}_steps"), &trail.steps)
+}
+
+fn entry_numbers(entry: &Entry) -> Vec<u32> {
+    let mut numbers = vec![entry.address];
+    numbers.extend(entry.registers);
+    numbers.push(entry.flags);
+    numbers.extend(entry.data.iter().map(|byte| *byte as u32));
+    numbers
+}
+
+fn print_program(out: &mut impl Write, program: &Program) -> io::Result<()> {
+    line(out, "image", &program.words)?;
+    line(out, "base", [program.base])?;
+    line(out, "data_base", [program.data_base])?;
+    line(out, "entries", &program.entries)
+}
+
+fn cases(seed: u64, count: u64) -> io::Result<ExitCode> {
+    let mut random = Random::new(seed);
+    let mut out = BufWriter::new(io::stdout().lock());
+    for position in 0..count {
+        let case = random_case(&mut random);
+        line(&mut out, "case", [position])?;
+        print_program(&mut out, &case.program)?;
+        line(&mut out, "places_length", [case.places_length])?;
+        line(&mut out, "records_length", [case.records_length])?;
+        print_start(&mut out, &case.start)?;
+        line(&mut out, "cut", [case.cut])?;
+        let answer = answers(&case.outcome)[0];
+        line(
+            &mut out,
+            "answer",
+            [answer.number as u64, answer.first, answer.second],
+        )?;
+        match &case.outcome {
+            Err(Refusal::Entries(positions)) => line(&mut out, "bad", positions)?,
+            Err(_) => {}
+            Ok(translation) => {
+                for row in &translation.rows {
+                    let numbers = [row.address, row.next, row.kind, row.first_record];
+                    line(&mut out, "place", numbers)?;
+                }
+                for record in &translation.records {
+                    let numbers = [record.kind, record.first, record.second];
+                    line(&mut out, "record", numbers)?;
+                }
+            }
+        }
+        print_trail(&mut out, "old", &case.old)?;
+        if let Some(new) = &case.new {
+            print_trail(&mut out, "new", new)?;
+        }
+        writeln!(out, "done")?;
+    }
+    out.flush()?;
+    Ok(ExitCode::SUCCESS)
+}
+
+const CUTS: [usize; 5] = [1, 2, 3, 8, 40];
+
+fn claim(seed: u64, count: u64) -> io::Result<ExitCode> {
+    let mut random = Random::new(seed);
+    let mut out = io::stdout().lock();
+    let mut checks = 0u64;
+    let mut entries = 0u64;
+    let mut unequal_starts = 0u64;
+    let mut exceptions = 0u64;
+    let mut closes: BTreeMap<u32, u64> = BTreeMap::new();
+    for _ in 0..count {
+        let (program, translation) = random_accepted(&mut random);
+        let image_bytes = program.image_bytes();
+        let image = Image {
+            bytes: &image_bytes,
+            base: program.base,
+        };
+        let made = made_by_the_rules(image, &program.entries);
+        let place_bytes = translation.place_bytes();
+        let record_bytes = translation.record_bytes();
+        let accepted = Accepted {
+            image,
+            program: new_core::Program {
+                records: &record_bytes,
+                places: &place_bytes,
+                base: program.base,
+                image_length: image_bytes.len() as u32,
+            },
+            made: &made,
+            data_base: program.data_base,
+        };
+        let plain = program.plain_addresses();
+        for address in &plain {
+            let start = random_start(&mut random, &program, &plain, *address);
+            let other = other_start(&mut random, &start, &plain);
+            for cut in CUTS {
+                for new_start in [&start, &other] {
+                    match check(accepted, &start, new_start, cut) {
+                        Ok(seen) => {
+                            checks += 1;
+                            entries += seen.old.entries.len() as u64;
+                            entries += seen.new.entries.len() as u64;
+                            unequal_starts += !seen.first_entries_equal as u64;
+                            exceptions += seen.exception.is_some() as u64;
+                            *closes.entry(seen.new.close.0).or_default() += 1;
+                        }
+                        Err(reason) => {
+                            writeln!(out, "violated: {reason}")?;
+                            print_program(&mut out, &program)?;
+                            line(&mut out, "cut", [cut])?;
+                            writeln!(out, "old core's start and trail:")?;
+                            print_start(&mut out, &start)?;
+                            print_trail(&mut out, "old", &accepted.old_trail(&start, cut))?;
+                            writeln!(out, "new core's start and trail:")?;
+                            print_start(&mut out, new_start)?;
+                            print_trail(&mut out, "new", &accepted.new_trail(new_start, cut))?;
+                            return Ok(ExitCode::FAILURE);
+                        }
+                    }
+                }
+            }
+        }
+    }
+    writeln!(out, "images {count}")?;
+    writeln!(out, "pairs of trails {checks}")?;
+    writeln!(out, "trails {}", 2 * checks)?;
+    writeln!(out, "entries {entries}")?;
+    writeln!(out, "pairs with unequal first entries {unequal_starts}")?;
+    writeln!(out, "pairs that met the exception {exceptions}")?;
+    for (end, times) in closes {
+        writeln!(out, "new trails closed with {end}: {times}")?;
+    }
+    writeln!(out, "the claim holds of all")?;
+    Ok(ExitCode::SUCCESS)
+}
+
+/// How often the random cases of `cases` meet what they are to meet.
+fn census(seed: u64, count: u64) -> io::Result<ExitCode> {
+    let mut random = Random::new(seed);
+    let mut met: BTreeMap<String, u64> = BTreeMap::new();
+    for _ in 0..count {
+        let case = random_case(&mut random);
+        let mut meet = |what: String| *met.entry(what).or_default() += 1;
+        meet(format!("answer {}", answers(&case.outcome)[0].number));
+        meet(format!("old trail closed with {}", case.old.close.0));
+        if let Some(new) = &case.new {
+            meet(format!("new trail closed with {}", new.close.0));
+            if new.landed {
+                meet("new trail landed without a place".to_string());
+            }
+        }
+        if let Ok(translation) = &case.outcome {
+            let kinds: Vec<u32> = translation
+                .records
+                .iter()
+                .map(|record| record.kind)
+                .collect();
+            for kind in 1..=7 {
+                if kinds.contains(&kind) {
+                    meet(format!("translation with records of kind {kind}"));
+                }
+            }
+            for row in translation.rows.iter().filter(|row| row.kind == 1) {
+                let offset = row.address.wrapping_sub(case.program.base) / 4;
+                let word = case.program.words.get(offset as usize).copied();
+                meet(format!("slot place with {}", name(word)));
+            }
+        }
+        for pair in case.program.words.windows(2) {
+            let names = (name(Some(pair[0])), name(Some(pair[1])));
+            if names.0 != "another word" && names.1 != "another word" {
+                meet(format!("pair {} then {}", names.0, names.1));
+            }
+        }
+    }
+    let mut out = io::stdout().lock();
+    for (what, times) in met {
+        writeln!(out, "{what}: {times}")?;
+    }
+    Ok(ExitCode::SUCCESS)
+}
+
+/// The name of a word that transfers control, for the census.
+fn name(word: Option<u32>) -> &'static str {
+    use reading::words::{decode, Instruction};
+    match word.and_then(decode) {
+        Some(Instruction::Call { .. }) => "call",
+        Some(Instruction::Jmpl { .. }) => "jmpl",
+        Some(Instruction::Bicc {
+            condition, annul, ..
+        }) => match (condition, annul) {
+            (0, false) => "bn",
+            (0, true) => "bn,a",
+            (8, false) => "ba",
+            (8, true) => "ba,a",
+            (_, false) => "bcc",
+            (_, true) => "bcc,a",
+        },
+        _ => "another word",
+    }
+}
+
+/// Random calls with their answers, in the format of the files of cases: numbers of four bytes, big-endian;
+/// a byte area is padded with zeros to a multiple of four. The first number is how many cases follow.
+fn file(kind: &str, seed: u64, count: u64) -> io::Result<ExitCode> {
+    let mut random = Random::new(seed);
+    let mut out = BufWriter::new(io::stdout().lock());
+    out.write_all(&bytes([count as u32]))?;
+    for _ in 0..count {
+        let case = match kind {
+            "translate" => translate_case(&mut random),
+            "old_core" => old_core_case(&mut random),
+            _ => new_core_case(&mut random),
+        };
+        out.write_all(&case)?;
+    }
+    out.flush()?;
+    Ok(ExitCode::SUCCESS)
+}
+
+fn pad(case: &mut Vec<u8>, area: &[u8]) {
+    case.extend(area);
+    case.resize(case.len().div_ceil(4) * 4, 0);
+}
+
+fn translate_case(random: &mut Random) -> Vec<u8> {
+    let call = random_translate_call(random);
+    let mut places = vec![0xFF; call.places_length];
+    let mut records = vec![0xFF; call.records_length];
+    let image = Image {
+        bytes: &call.image,
+        base: call.base,
+    };
+    let allowed = translate_call(image, &call.entries, &mut places, &mut records);
+    let answer = allowed[0];
+    let several = (allowed.len() > 1) as u32;
+    let mut case = bytes([
+        0x5452_4E53,
+        call.image.len() as u32,
+        call.base,
+        call.entries.len() as u32,
+        call.places_length as u32,
+        call.records_length as u32,
+        answer.number,
+        answer.first as u32,
+        answer.second as u32 + several,
+    ]);
+    pad(&mut case, &call.image);
+    pad(&mut case, &call.entries);
+    if answer.number == 0 {
+        case.extend(&places[..16 * answer.first as usize]);
+        case.extend(&records[..12 * answer.second as usize]);
+    }
+    case
+}
+
+fn old_core_case(random: &mut Random) -> Vec<u8> {
+    let mut call = random_old_run_call(random);
+    let mut case = bytes([
+        0x4F4C_4443,
+        call.image.len() as u32,
+        call.base,
+        call.data_base,
+        call.data.len() as u32,
+        call.count as u32,
+    ]);
+    case.extend(call.state);
+    pad(&mut case, &call.image);
+    pad(&mut case, &call.data);
+    let image = Image {
+        bytes: &call.image,
+        base: call.base,
+    };
+    old_run_call(
+        image,
+        call.data_base,
+        &mut call.state,
+        &mut call.data,
+        call.count,
+    );
+    case.extend(call.state);
+    pad(&mut case, &call.data);
+    case
+}
+
+fn new_core_case(random: &mut Random) -> Vec<u8> {
+    let mut call = random_new_run_call(random);
+    let mut case = bytes([
+        0x4E45_5743,
+        call.places.len() as u32,
+        call.records.len() as u32,
+        call.base,
+        call.image_length,
+        call.data_base,
+        call.data.len() as u32,
+        call.count as u32,
+    ]);
+    case.extend(call.state);
+    pad(&mut case, &call.places);
+    pad(&mut case, &call.records);
+    pad(&mut case, &call.data);
+    let program = new_core::Program {
+        records: &call.records,
+        places: &call.places,
+        base: call.base,
+        image_length: call.image_length,
+    };
+    new_run_call(
+        program,
+        call.data_base,
+        &mut call.state,
+        &mut call.data,
+        call.count,
+    );
+    case.extend(call.state);
+    pad(&mut case, &call.data);
+    case
+}
+
+fn listing() -> io::Result<ExitCode> {
+    let mut input = vec![];
+    io::stdin().lock().read_to_end(&mut input)?;
+    print!("{}", reading::listing::listing(&input));
+    Ok(ExitCode::SUCCESS)
+}

@@ -1,0 +1,405 @@
+//! 01, "The old core": what a word is.
+
+/// "Each word reads as one instruction whose second operand is a register or a signed 13-bit
+/// constant."
+#[derive(Clone, Copy, PartialEq, Eq, Debug)]
+pub enum Operand {
+    Register(usize),
+    /// The constant with its sign extended to 32 bits.
+    Constant(u32),
+}
+
+#[derive(Clone, Copy, PartialEq, Eq, Debug)]
+pub enum Operation {
+    Add,
+    Addx,
+    Sub,
+    Subx,
+    And,
+    Andn,
+    Or,
+    Orn,
+    Xor,
+    Xnor,
+}
+
+#[derive(Clone, Copy, PartialEq, Eq, Debug)]
+pub enum Shift {
+    Sll,
+    Srl,
+    Sra,
+}
+
+#[derive(Clone, Copy, PartialEq, Eq, Debug)]
+pub enum Load {
+    Ld,
+    Ldub,
+    Ldsb,
+    Lduh,
+    Ldsh,
+}
+
+#[derive(Clone, Copy, PartialEq, Eq, Debug)]
+pub enum Store {
+    St,
+    Stb,
+    Sth,
+}
+
+/// "Words known: call; sethi; the sixteen integer branches (Bicc) with the annul bit; add, addx,
+/// sub, subx, and, andn, or, orn, xor, xnor, each plain and setting flags; sll, srl, sra; jmpl; the
+/// sixteen Ticc; ld, ldub, ldsb, lduh, ldsh, st, stb, sth."
+///
+/// Displacements are in bytes, modulo 2^32, and are added to the word's own address.
+#[derive(Clone, Copy, PartialEq, Eq, Debug)]
+pub enum Instruction {
+    Call {
+        displacement: u32,
+    },
+    Sethi {
+        rd: usize,
+        value: u32,
+    },
+    Bicc {
+        condition: u32,
+        annul: bool,
+        displacement: u32,
+    },
+    Arithmetic {
+        operation: Operation,
+        sets_flags: bool,
+        rd: usize,
+        rs1: usize,
+        operand: Operand,
+    },
+    Shift {
+        shift: Shift,
+        rd: usize,
+        rs1: usize,
+        operand: Operand,
+    },
+    Jmpl {
+        rd: usize,
+        rs1: usize,
+        operand: Operand,
+    },
+    Ticc {
+        condition: u32,
+        rs1: usize,
+        operand: Operand,
+    },
+    Load {
+        load: Load,
+        rd: usize,
+        rs1: usize,
+        operand: Operand,
+    },
+    Store {
+        store: Store,
+        rd: usize,
+        rs1: usize,
+        operand: Operand,
+    },
+}
+
+/// The bits of a word from `high` down to `low`.
+fn bits(word: u32, high: u32, low: u32) -> u32 {
+    let width = high - low + 1;
+    let mask = if width == 32 {
+        0xFFFF_FFFF
+    } else {
+        (1 << width) - 1
+    };
+    (word >> low) & mask
+}
+
+/// A field of so many bits read as a signed number, modulo 2^32.
+fn signed(field: u32, width: u32) -> u32 {
+    if field >> (width - 1) == 1 {
+        field.wrapping_sub(1 << width)
+    } else {
+        field
+    }
+}
+
+/// "Bits 31 and 30 of a word choose its format, and the other fields are cut from it as V8 draws
+/// them." "All others are illegal. Unused bits are ignored." An illegal word gives `None`.
+pub fn decode(word: u32) -> Option<Instruction> {
+    match bits(word, 31, 30) {
+        // Format 1: op, disp30.
+        1 => Some(Instruction::Call {
+            displacement: bits(word, 29, 0).wrapping_mul(4),
+        }),
+        0 => decode_format_2(word),
+        2 => decode_arithmetic(word),
+        _ => decode_memory(word),
+    }
+}
+
+/// Format 2: op, rd or (a, cond), op2, imm22 or disp22.
+fn decode_format_2(word: u32) -> Option<Instruction> {
+    match bits(word, 24, 22) {
+        4 => Some(Instruction::Sethi {
+            rd: bits(word, 29, 25) as usize,
+            value: bits(word, 21, 0) << 10,
+        }),
+        2 => Some(Instruction::Bicc {
+            condition: bits(word, 28, 25),
+            annul: bits(word, 29, 29) == 1,
+            displacement: signed(bits(word, 21, 0), 22).wrapping_mul(4),
+        }),
+        _ => None,
+    }
+}
+
+/// Format 3: op, rd, op3, rs1, i, then (asi, rs2) or simm13.
+fn operand(word: u32) -> Operand {
+    if bits(word, 13, 13) == 1 {
+        Operand::Constant(signed(bits(word, 12, 0), 13))
+    } else {
+        Operand::Register(bits(word, 4, 0) as usize)
+    }
+}
+
+fn decode_arithmetic(word: u32) -> Option<Instruction> {
+    let rd = bits(word, 29, 25) as usize;
+    let rs1 = bits(word, 18, 14) as usize;
+    let operand = operand(word);
+    let arithmetic = |operation, sets_flags| {
+        Some(Instruction::Arithmetic {
+            operation,
+            sets_flags,
+            rd,
+            rs1,
+            operand,
+        })
+    };
+    let shift = |shift| {
+        Some(Instruction::Shift {
+            shift,
+            rd,
+            rs1,
+            operand,
+        })
+    };
+    match bits(word, 24, 19) {
+        0b000000 => arithmetic(Operation::Add, false),
+        0b000001 => arithmetic(Operation::And, false),
+        0b000010 => arithmetic(Operation::Or, false),
+        0b000011 => arithmetic(Operation::Xor, false),
+        0b000100 => arithmetic(Operation::Sub, false),
+        0b000101 => arithmetic(Operation::Andn, false),
+        0b000110 => arithmetic(Operation::Orn, false),
+        0b000111 => arithmetic(Operation::Xnor, false),
+        0b001000 => arithmetic(Operation::Addx, false),
+        0b001100 => arithmetic(Operation::Subx, false),
+        0b010000 => arithmetic(Operation::Add, true),
+        0b010001 => arithmetic(Operation::And, true),
+        0b010010 => arithmetic(Operation::Or, true),
+        0b010011 => arithmetic(Operation::Xor, true),
+        0b010100 => arithmetic(Operation::Sub, true),
+        0b010101 => arithmetic(Operation::Andn, true),
+        0b010110 => arithmetic(Operation::Orn, true),
+        0b010111 => arithmetic(Operation::Xnor, true),
+        0b011000 => arithmetic(Operation::Addx, true),
+        0b011100 => arithmetic(Operation::Subx, true),
+        0b100101 => shift(Shift::Sll),
+        0b100110 => shift(Shift::Srl),
+        0b100111 => shift(Shift::Sra),
+        0b111000 => Some(Instruction::Jmpl { rd, rs1, operand }),
+        0b111010 => Some(Instruction::Ticc {
+            condition: bits(word, 28, 25),
+            rs1,
+            operand,
+        }),
+        _ => None,
+    }
+}
+
+fn decode_memory(word: u32) -> Option<Instruction> {
+    let rd = bits(word, 29, 25) as usize;
+    let rs1 = bits(word, 18, 14) as usize;
+    let operand = operand(word);
+    let load = |load| {
+        Some(Instruction::Load {
+            load,
+            rd,
+            rs1,
+            operand,
+        })
+    };
+    let store = |store| {
+        Some(Instruction::Store {
+            store,
+            rd,
+            rs1,
+            operand,
+        })
+    };
+    match bits(word, 24, 19) {
+        0b000000 => load(Load::Ld),
+        0b000001 => load(Load::Ldub),
+        0b000010 => load(Load::Lduh),
+        0b001001 => load(Load::Ldsb),
+        0b001010 => load(Load::Ldsh),
+        0b000100 => store(Store::St),
+        0b000101 => store(Store::Stb),
+        0b000110 => store(Store::Sth),
+        _ => None,
+    }
+}
+
+/// "flags N, Z, V, C"
+#[derive(Clone, Copy, PartialEq, Eq, Debug)]
+pub struct Flags {
+    pub n: bool,
+    pub z: bool,
+    pub v: bool,
+    pub c: bool,
+}
+
+impl Flags {
+    /// "all flags clear"
+    pub const CLEAR: Flags = Flags {
+        n: false,
+        z: false,
+        v: false,
+        c: false,
+    };
+
+    /// "flag value 8N + 4Z + 2V + C"
+    pub fn number(self) -> u32 {
+        8 * self.n as u32 + 4 * self.z as u32 + 2 * self.v as u32 + self.c as u32
+    }
+
+    /// The flags of a number's low four bits.
+    pub fn of_number(number: u32) -> Flags {
+        Flags {
+            n: number & 8 != 0,
+            z: number & 4 != 0,
+            v: number & 2 != 0,
+            c: number & 1 != 0,
+        }
+    }
+}
+
+/// Conditions as V8's formulas for Bicc and Ticc give them; 01's own table is in the tests. Numbers
+/// above 15 are no conditions.
+pub fn condition_holds(condition: u32, flags: Flags) -> bool {
+    let Flags { n, z, v, c } = flags;
+    match condition {
+        0b0000 => false,          // never
+        0b0001 => z,              // equal
+        0b0010 => z || (n != v),  // less or equal
+        0b0011 => n != v,         // less
+        0b0100 => c || z,         // less or equal, unsigned
+        0b0101 => c,              // carry set
+        0b0110 => n,              // negative
+        0b0111 => v,              // overflow set
+        0b1000 => true,           // always
+        0b1001 => !z,             // not equal
+        0b1010 => !(z || n != v), // greater
+        0b1011 => n == v,         // greater or equal
+        0b1100 => !(c || z),      // greater, unsigned
+        0b1101 => !c,             // carry clear
+        0b1110 => !n,             // positive
+        0b1111 => !v,             // overflow clear
+        _ => panic!("conditions are 0 to 15"),
+    }
+}
+
+#[cfg(test)]
+mod tests {
+    use super::*;
+
+    /// "Conditions 0 to 15, one bit for each flag value 8N + 4Z + 2V + C, lowest first"
+    const TABLE: [u32; 16] = [
+        0x0000, 0xF0F0, 0xF3FC, 0x33CC, 0xFAFA, 0xAAAA, 0xFF00, 0xCCCC, 0xFFFF, 0x0F0F, 0x0C03,
+        0xCC33, 0x0505, 0x5555, 0x00FF, 0x3333,
+    ];
+
+    #[test]
+    fn formulas_and_table_agree() {
+        for condition in 0..16 {
+            for value in 0..16 {
+                let flags = Flags::of_number(value);
+                assert_eq!(flags.number(), value);
+                assert_eq!(
+                    condition_holds(condition, flags),
+                    (TABLE[condition as usize] >> value) & 1 == 1,
+                    "condition {condition}, flags {value}"
+                );
+            }
+        }
+    }
+
+    #[test]
+    fn fields() {
+        assert_eq!(
+            decode(0x1080_0003),
+            Some(Instruction::Bicc {
+                condition: 8,
+                annul: false,
+                displacement: 12
+            })
+        );
+        assert_eq!(
+            decode(0x30BF_FFFF),
+            Some(Instruction::Bicc {
+                condition: 8,
+                annul: true,
+                displacement: 0xFFFF_FFFC
+            })
+        );
+        assert_eq!(
+            decode(0x7FFF_FFFF),
+            Some(Instruction::Call {
+                displacement: 0xFFFF_FFFC
+            })
+        );
+        assert_eq!(
+            decode(0x81C3_E008),
+            Some(Instruction::Jmpl {
+                rd: 0,
+                rs1: 15,
+                operand: Operand::Constant(8)
+            })
+        );
+        assert_eq!(
+            decode(0x91D0_2000),
+            Some(Instruction::Ticc {
+                condition: 8,
+                rs1: 0,
+                operand: Operand::Constant(0)
+            })
+        );
+        assert_eq!(
+            decode(0x0300_0001),
+            Some(Instruction::Sethi {
+                rd: 1,
+                value: 0x400
+            })
+        );
+        assert_eq!(decode(0), None);
+    }
+
+    /// Unused bits: asi with a register, and bit 29 of a Ticc.
+    #[test]
+    fn unused_bits() {
+        assert_eq!(decode(0x8200_5FE2), decode(0x8200_4002));
+        assert_eq!(decode(0xB1D0_2000), decode(0x91D0_2000));
+    }
+
+    /// How many of the op, op2 and op3 values are known: 1 call, 2 of format 2, 25 and 8 of format 3.
+    #[test]
+    fn how_many_are_known() {
+        let format_2 = (0..8).filter(|op2| decode(op2 << 22).is_some()).count();
+        let arithmetic = (0..64)
+            .filter(|op3| decode(0x8000_0000 | (op3 << 19)).is_some())
+            .count();
+        let memory = (0..64)
+            .filter(|op3| decode(0xC000_0000 | (op3 << 19)).is_some())
+            .count();
+        assert_eq!((format_2, arithmetic, memory), (2, 25, 8));
+    }
+}

@@ -1,0 +1,404 @@
+//! 01's listing and its cases P1 to P11.
+
+use reading::claim::{check, Accepted, Start};
+use reading::listing::listing;
+use reading::machine::{Area, End, Machine};
+use reading::new_core::{self, Program};
+use reading::old_core::{self, Image, OldState};
+use reading::places::{made_by_the_rules, walk, Place};
+use reading::random::{random_accepted, random_plain, random_start, Random};
+use reading::records::Record;
+use reading::state::{decode_new, decode_old, encode_new, encode_old, NEW_STATE, OLD_STATE};
+use reading::trails::{new_begun, new_trail, new_trail_of_run, old_trail, Trail};
+use reading::translator::{answers, bytes, fill, translate, Answer, Refusal};
+use reading::words::Flags;
+
+const LARGE: usize = 1 << 20;
+const ADD: u32 = 0x8200_6001; // add 1 to register 1
+const TA: u32 = 0x91D0_2000; // ta 0
+const LISTED: [u32; 4] = [0x1080_0003, ADD, 0, TA];
+
+fn answer(number: u32, first: u64, second: u64) -> Answer {
+    Answer {
+        number,
+        first,
+        second,
+    }
+}
+
+fn ask(words: &[u32], entries: &[u32], places_length: usize, records_length: usize) -> Answer {
+    let image_bytes = bytes(words.iter().copied());
+    let image = Image {
+        bytes: &image_bytes,
+        base: 0,
+    };
+    let entry_bytes = bytes(entries.iter().copied());
+    answers(&translate(
+        image,
+        &entry_bytes,
+        places_length,
+        records_length,
+    ))[0]
+}
+
+fn flags(number: u32) -> Flags {
+    Flags::of_number(number)
+}
+
+/// The old core's trail from address 0 over an image at base 0 without data.
+fn trail_from_0(words: &[u32], machine: Machine, cut: usize) -> Trail {
+    let image_bytes = bytes(words.iter().copied());
+    let image = Image {
+        bytes: &image_bytes,
+        base: 0,
+    };
+    let mut area = Area::lent(0, &mut []);
+    old_trail(image, old_core::begin(machine, 0), &mut area, cut)
+}
+
+fn addresses(trail: &Trail) -> Vec<u32> {
+    trail.entries.iter().map(|entry| entry.address).collect()
+}
+
+/// One step of the old core over one word at address 0.
+fn step_word(word: u32, machine: Machine) -> OldState {
+    let image_bytes = bytes([word]);
+    let image = Image {
+        bytes: &image_bytes,
+        base: 0,
+    };
+    let mut state = old_core::begin(machine, 0);
+    old_core::step(image, &mut state, &mut Area::lent(0, &mut []));
+    state
+}
+
+#[test]
+fn p1_the_listing() {
+    let expected = "\
+place address next kind record
+0 0 4 0 0
+1 4 12 1 1
+2 12 16 0 3
+kind first second
+5 1 0
+1 2181062657 0
+5 3 0
+1 2446336000 0
+";
+    assert_eq!(listing(&bytes(LISTED)), expected);
+    assert_eq!(listing(&[0; 1025]), "refused detail\n1 1025\n");
+    assert_eq!(listing(&[0; 3]), "refused detail\n1 3\n");
+    assert_eq!(
+        listing(&bytes([0x81C3_E008, 0x1080_0000])),
+        "refused detail\n4 4\n"
+    );
+}
+
+#[test]
+fn p2_a_branch_in_a_branch() {
+    let words = [0x1080_0004, 0x1080_0005, 0, 0, ADD, 0, TA];
+    let trail = trail_from_0(&words, Machine::start(), 100);
+    assert_eq!(addresses(&trail), [0, 4, 16, 24]);
+    assert_eq!(trail.close, (1, 0));
+    assert_eq!(ask(&words, &[0], LARGE, LARGE), answer(0, 4, 5));
+}
+
+#[test]
+fn p3_a_branch_over_its_slot() {
+    let image_bytes = bytes([0x1080_0002, ADD, TA]);
+    let image = Image {
+        bytes: &image_bytes,
+        base: 0,
+    };
+    let (places, _) = walk(image, &[0], 100).unwrap();
+    assert_eq!(places[1], Place::Plain(4));
+}
+
+#[test]
+fn p4_p5_annulled_where_the_condition_fails() {
+    let words = [0x2280_0004, ADD, TA, 0, TA];
+    let clear = trail_from_0(&words, Machine::start(), 100);
+    assert_eq!(addresses(&clear), [0, 8]);
+    assert_eq!(clear.steps, [2, 1]);
+    let set = trail_from_0(&words, Machine::of([0; 32], flags(4)), 100);
+    assert_eq!(addresses(&set), [0, 4, 16]);
+}
+
+#[test]
+fn p6_a_branch_to_itself() {
+    assert_eq!(ask(&[0x3080_0000], &[0], LARGE, LARGE), answer(0, 1, 1));
+    let trail = trail_from_0(&[0x3080_0000], Machine::start(), 3);
+    assert_eq!(addresses(&trail), [0, 0, 0]);
+    assert_eq!((trail.close, trail.steps), ((0, 0), vec![2, 2, 2]));
+}
+
+#[test]
+fn p7_a_branch_in_the_slot_of_a_jmpl() {
+    let words = [0x81C3_E008, 0x1080_0000];
+    assert_eq!(ask(&words, &[0], LARGE, LARGE), answer(4, 4, 0));
+}
+
+#[test]
+fn p8_p9_flags() {
+    // subcc 0, 1 to register 1
+    let state = step_word(0x82A0_2001, Machine::start());
+    assert_eq!(state.machine.read(1), 4_294_967_295);
+    assert_eq!(state.machine.flags, flags(8 + 1));
+    // addcc register 1, 1 to register 1
+    let mut machine = Machine::start();
+    machine.write(1, 2_147_483_647);
+    let state = step_word(0x8280_6001, machine);
+    assert_eq!(state.machine.read(1), 2_147_483_648);
+    assert_eq!(state.machine.flags, flags(8 + 2));
+}
+
+#[test]
+fn p10_a_misaligned_jmpl() {
+    let mut machine = Machine::start();
+    machine.write(1, 18);
+    let state = step_word(0x83C0_6000, machine.clone());
+    assert_eq!(state.end, End::Misaligned(18));
+    assert_eq!((state.machine, state.pc, state.npc), (machine, 0, 4));
+}
+
+#[test]
+fn p11_short_buffers() {
+    assert_eq!(ask(&LISTED, &[0], 3 * 16, 4 * 12), answer(0, 3, 4));
+    assert_eq!(ask(&LISTED, &[0], 2 * 16, LARGE), answer(5, 12, 0));
+    assert_eq!(ask(&LISTED, &[0], 3 * 16 - 1, LARGE), answer(5, 12, 0));
+    assert_eq!(ask(&LISTED, &[0], LARGE, 3 * 12), answer(6, 4, 0));
+    assert_eq!(ask(&LISTED, &[0], LARGE, 4 * 12 - 1), answer(6, 4, 0));
+    assert_eq!(ask(&LISTED, &[0], 0, LARGE), answer(5, 0, 0));
+}
+
+#[test]
+fn limits() {
+    let longest = vec![TA; 4096];
+    assert_eq!(ask(&longest, &[0], LARGE, LARGE), answer(0, 1, 1));
+    let longer = vec![TA; 4097];
+    assert_eq!(ask(&longer, &[0], LARGE, LARGE), answer(1, 16_388, 0));
+    assert_eq!(ask(&[TA], &[0; 64], LARGE, LARGE), answer(0, 1, 1));
+    assert_eq!(ask(&[TA], &[0; 65], LARGE, LARGE), answer(3, 0, 0));
+    assert_eq!(ask(&[TA], &[], LARGE, LARGE), answer(3, 0, 0));
+    assert_eq!(ask(&[TA], &[0, 4, 0, 2], LARGE, LARGE), answer(3, 2, 0));
+    let image_bytes = bytes([TA]);
+    let image = Image {
+        bytes: &image_bytes,
+        base: 0,
+    };
+    assert_eq!(
+        translate(image, &bytes([0, 4, 0, 2]), LARGE, LARGE),
+        Err(Refusal::Entries(vec![2, 4]))
+    );
+}
+
+/// The largest image, all of its words conditional branches backwards: the 8,193rd place is refused.
+#[test]
+fn many_places() {
+    let words: Vec<u32> = (0..4096u32)
+        .map(|position| 0x0280_0000 | (0u32.wrapping_sub(position / 2) & 0x3F_FFFF))
+        .collect();
+    let refused = ask(&words, &[0], LARGE, LARGE);
+    assert_eq!(refused.number, 5);
+}
+
+/// Refusals fill both buffers with 0, and acceptance leaves zeros past the last number.
+#[test]
+fn buffers() {
+    let image_bytes = bytes(LISTED);
+    let image = Image {
+        bytes: &image_bytes,
+        base: 0,
+    };
+    let mut places = [0xFF; 3 * 16 + 5];
+    let mut records = [0xFF; 4 * 12 + 7];
+    let outcome = translate(image, &bytes([0]), places.len(), records.len());
+    fill(&outcome, &mut places, &mut records);
+    assert_eq!(places[16..32], bytes([4, 12, 1, 1]));
+    assert_eq!(records[12..24], bytes([1, ADD, 0]));
+    assert_eq!(places[48..], [0; 5]);
+    assert_eq!(records[48..], [0; 7]);
+    let mut short = [0xFF; 47];
+    let outcome = translate(image, &bytes([0]), places.len(), short.len());
+    fill(&outcome, &mut places, &mut short);
+    assert_eq!((places, short), ([0; 53], [0; 47]));
+}
+
+/// A jmpl to an address in the image without a plain place, and to one outside.
+#[test]
+fn a_landing_without_a_place() {
+    // jmpl register 1, constant 0; add; illegal; ta 0
+    let image_bytes = bytes([0x81C0_6000, ADD, 0, TA]);
+    let image = Image {
+        bytes: &image_bytes,
+        base: 0,
+    };
+    let translation = translate(image, &bytes([0]), LARGE, LARGE).unwrap();
+    let (places, records) = (translation.place_bytes(), translation.record_bytes());
+    let program = Program {
+        records: &records,
+        places: &places,
+        base: 0,
+        image_length: 16,
+    };
+    for (target, end) in [(12, 6), (16, 2), (0xFFFF_FFFC, 2)] {
+        let mut machine = Machine::start();
+        machine.write(1, target);
+        let mut area = Area::lent(0, &mut []);
+        let begun = new_begun(program, machine.clone(), 0);
+        let trail = new_trail(program, begun.clone(), &mut area, 3);
+        assert_eq!(addresses(&trail), [0, 4, target]);
+        assert_eq!((trail.close, trail.landed), ((end, target), true));
+        assert_eq!(trail.steps, [2, 2, 0]);
+        // Without room for that entry the trail closes with 0.
+        let trail = new_trail(program, begun.clone(), &mut area, 2);
+        assert_eq!(addresses(&trail), [0, 4]);
+        assert_eq!((trail.close, trail.landed), ((0, 0), false));
+        // A run of a given count stops where it is.
+        let trail = new_trail_of_run(program, begun, &mut area, 3);
+        assert_eq!(addresses(&trail), [0, 4]);
+        assert_eq!(trail.close, (0, 0));
+    }
+    // A start without a place.
+    let begun = new_begun(program, Machine::start(), 12);
+    let trail = new_trail(program, begun, &mut Area::lent(0, &mut []), 1);
+    assert_eq!((addresses(&trail), trail.close), (vec![12], (6, 12)));
+}
+
+/// The closure by the rules and the walk find the same places.
+#[test]
+fn walk_and_rules_agree() {
+    let mut random = Random::new(7);
+    for _ in 0..2000 {
+        let (program, _) = random_accepted(&mut random);
+        let image_bytes = program.image_bytes();
+        let image = Image {
+            bytes: &image_bytes,
+            base: program.base,
+        };
+        let (places, numbers) = walk(image, &program.entries, LARGE).unwrap();
+        let made = made_by_the_rules(image, &program.entries);
+        assert_eq!(made, places.iter().copied().collect());
+        assert_eq!(numbers.len(), places.len());
+    }
+}
+
+/// The claim fails of a translation whose groups but the first end, and of one that links p + 8.
+#[test]
+fn the_claim_says_something() {
+    let mut random = Random::new(11);
+    let mut violated = [0, 0];
+    for _ in 0..300 {
+        let (program, translation) = random_accepted(&mut random);
+        let image_bytes = program.image_bytes();
+        let image = Image {
+            bytes: &image_bytes,
+            base: program.base,
+        };
+        let made = made_by_the_rules(image, &program.entries);
+        let plain = program.plain_addresses();
+        let address = random_plain(&mut random, &program, &plain);
+        let start = random_start(&mut random, &program, &plain, address);
+
+        let mut ending = translation.clone();
+        let second_group = translation.rows.get(1).map_or(0, |row| row.first_record);
+        for record in &mut ending.records[second_group as usize..] {
+            *record = Record::new(7, 2, 0);
+        }
+        let mut linking = translation.clone();
+        for record in &mut linking.records {
+            if record.kind == 2 {
+                record.first = record.first.wrapping_add(8);
+            }
+        }
+        for (position, wrong) in [ending, linking].iter().enumerate() {
+            let accepted = Accepted {
+                image,
+                program: Program {
+                    records: &wrong.record_bytes(),
+                    places: &wrong.place_bytes(),
+                    base: program.base,
+                    image_length: image_bytes.len() as u32,
+                },
+                made: &made,
+                data_base: program.data_base,
+            };
+            violated[position] += check(accepted, &start, &start, 8).is_err() as u32;
+        }
+    }
+    assert!(violated[0] > 100 && violated[1] > 10, "{violated:?}");
+}
+
+/// Bytes that no core wrote come back in normal form.
+#[test]
+fn state_bytes() {
+    let state = decode_old(&[0xFF; OLD_STATE]);
+    assert_eq!(state.end, End::Going);
+    assert!(state.annul);
+    let mut normal = [0xFF; OLD_STATE];
+    normal[..4].fill(0);
+    normal[128..132].copy_from_slice(&[0, 0, 0, 15]);
+    normal[140..152].copy_from_slice(&[0, 0, 0, 1, 0, 0, 0, 0, 0, 0, 0, 0]);
+    assert_eq!(encode_old(&state), normal);
+    let mut ended = [0; NEW_STATE];
+    ended[143] = 7;
+    ended[147] = 9;
+    assert_eq!(decode_new(&ended).end, End::BadRecord(9));
+    assert_eq!(encode_new(&decode_new(&ended)), ended);
+}
+
+/// Every end 7 that 01 names, with the record number and nothing else changed.
+#[test]
+fn bad_records() {
+    for record in [
+        [0, 0, 0],
+        [8, 0, 0],
+        [1, 0, 0],           // illegal
+        [1, 0x4000_0000, 0], // call
+        [1, 0x81C0_6000, 0], // jmpl
+        [1, 0x1080_0000, 0], // ba
+        [1, 0x2080_0000, 0], // bn,a
+        [3, ADD, 0],
+        [3, 0, 0],
+        [4, 16, 0],
+        [7, 0, 0],
+        [7, 1, 0],
+        [7, 4, 0],
+    ] {
+        let records = bytes([[5, 1, 0], record].concat());
+        let program = Program {
+            records: &records,
+            places: &[],
+            base: 0,
+            image_length: 0,
+        };
+        let mut state = decode_new(&[0; NEW_STATE]);
+        new_core::run(program, &mut state, &mut Area::lent(0, &mut []), 9);
+        assert_eq!(state.end, End::BadRecord(1), "{record:?}");
+        assert_eq!(state.record, 1);
+    }
+    // bn without annul is a word that kind 1 does.
+    let records = bytes([1, 0x0080_0000, 0]);
+    let program = Program {
+        records: &records,
+        places: &[],
+        base: 0,
+        image_length: 0,
+    };
+    let mut state = decode_new(&[0; NEW_STATE]);
+    new_core::run(program, &mut state, &mut Area::lent(0, &mut []), 9);
+    assert_eq!(state.end, End::BadRecord(1));
+}
+
+/// A start shows register 0 as 0 and the low four flag bits.
+#[test]
+fn starts() {
+    let start = Start {
+        address: 0,
+        registers: [5; 32],
+        flags: 0x19,
+        data: vec![],
+    };
+    assert_eq!(start.machine().read(0), 0);
+    assert_eq!(start.machine().flags, flags(9));
+}
