@@ -5,6 +5,9 @@ pub mod Walk
 pub mod Records
 pub mod NewCore
 pub mod Translation
+pub mod Trails
+pub mod Cores
+pub mod Demand3
 pub mod OldState
 pub mod NewState
 pub mod StateBytes

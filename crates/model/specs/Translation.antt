@@ -74,7 +74,7 @@ module _ (image : List ℕ) (base : ℕ) (entries : List ℕ) (placesLength reco
         records = filled (recordsNumbers (recordsOf image base ps)) recordsLength;
       }
 
-  -- 4 or 5, as the walk says; 6: "the record buffer is short", with the records needed
+  -- 4 or 5, as the walk says; 6: "the record buffer is short", with the records needed; endless never is (`places-end`)
   unfoldable pub fromWalk : Walked → Handed
   fromWalk (table ps) =
       pick (leb (length (recordsOf image base ps)) (recordsLength / 12)) (acceptance ps)

@@ -9,7 +9,7 @@ use Rattle.numbers.specs.Choice.{pick}
 use Rattle.model.specs.declared.Place.{Place}
 use Rattle.model.specs.Places.{placeAt, member, followers, allowed, plains}
 
--- the places in number order, or a refusal's number and address; endless: the turns ran out, which is meant never to happen, since `cap` places are handled in as many turns
+-- the places in number order, or a refusal's number and address; endless: the turns ran out, which never happens (`places-end`)
 pub data Walked : Type 0 where
   table : List Place → Walked
   refused : ℕ → ℕ → Walked

@@ -1,6 +1,6 @@
 -- Laws of lists that are counted up: f 0, f 1, .. without f n.
 use Rattle.numbers.specs.Number.{upTo}
-use lib.Seq.{drop-nil, drop-cons, getD-at}
+use lib.Seq.{drop-nil, drop-cons, getD-at, ext-getD}
 use lib.ListN.{length, getD, drop, length-append, drop-of-length-le, List·getD-append, getElem?}
 use native.Mathlib.Nat.{le-of-suc-le-suc, eq-or-lt-of-le}
 use native.Mathlib.Omega.{arith}
@@ -50,3 +50,9 @@ at-up f n i h = found (upTo f n) i (f i) (drop (suc i) (upTo f n)) (drop-up f n 
 
 pub past-up : {A : Type 0} (f : ℕ → A) (n i : ℕ) → n ≤ i → getElem? (upTo f n) i ≡ none
 past-up f n i h = missing (upTo f n) i (drop-all-up f n i h)
+
+-- counted up by what stands at each index, a list comes back
+pub up-list : {A : Type 0} (d : A) (f : ℕ → A) (l : List A) → ((i : ℕ) → i < length l → f i ≡ getD l i d) → upTo f (length l) ≡ l
+up-list d f l h =
+    ext-getD d (upTo f (length l)) l (length-up f (length l))
+    (λ i b. let k : i < length l = rw (length-up f (length l)) at b in get-up f (length l) i d k ∙ h i k)

@@ -1,0 +1,154 @@
+-- What acceptance says: the walk made the places, no entry is bad, and the buffers begin with the bytes of table and records.
+use Prim.Native.Nat.{ℕ, zero, suc, _+_, _*_, _-_, _/_, _%_, _^_, _<_}
+use native.Mathlib.Omega.{arith}
+use mathlib.Core.Path.{_≡_, refl, sym, ap, _∙_, subst}
+use mathlib.Core.Bool.{Bool, true, false, _&&_, not, false≢true}
+use mathlib.Core.List.{List, [], _∷_}
+use mathlib.Core.Option.{none, some}
+use lib.Dec.{eqb, leb}
+use lib.ListN.{length, getD, take, replicate}
+use lib.Seq.{take-at}
+use borrow.Author.Tests.{eqb-true}
+use Rattle.numbers.specs.Choice.{pick}
+use Rattle.numbers.specs.Number.{minus, plus, numberAt, numbersOf, bytesOf}
+use Rattle.numbers.proofs.Number.{AllLt, all-lt-up, length-bytes}
+use Rattle.model.specs.declared.Place.{Place}
+use Rattle.model.specs.declared.Answer.{Answer}
+use Rattle.model.specs.declared.Answer.the-variants.{Accepted, ImageLength, Base, Entry, Forbidden, NoRoom, RecordsShort}
+use Rattle.model.specs.OldCore.{inImage, wordIn}
+use Rattle.model.specs.Places.{plain, plains}
+use Rattle.model.specs.Walk.{Walked, table, refused, endless, placesOf}
+use Rattle.model.specs.Records.{group, past, rowsFrom, rowsOf, recordsOf, tableNumbers, recordsNumbers, numbersIn}
+use Rattle.model.specs.Translation.{Handed, badLength, badCount, badEntry, anyBad, placeRoom, filled, refusal, acceptance, fromWalk, translation}
+use Rattle.model.specs.Demand3.{AllBytes}
+use Rattle.model.proofs.Members.{AllP}
+use Rattle.model.proofs.OldSide.{Aligned}
+use Rattle.model.proofs.Packed.{length-table, length-records}
+
+-- ---------------------------------------------------------------- numbers of bytes have 32 bits
+byte-at : (bs : List ℕ) (i : ℕ) → AllBytes bs → getD bs i 0 < 256
+byte-at [] i a = omega arith
+byte-at (b ∷ bs) zero a = a .0
+byte-at (b ∷ bs) (suc i) a = byte-at bs i (a .1)
+
+number-lt : (bs : List ℕ) (at : ℕ) → AllBytes bs → numberAt bs at < 2 ^ 32
+unfolding numberAt
+number-lt bs at a = omega (arith, byte-at bs at a, byte-at bs (at + 1) a, byte-at bs (at + 2) a, byte-at bs (at + 3) a)
+
+pub words-lt : (image : List ℕ) (base : ℕ) → AllBytes image → (p w : ℕ) → wordIn image base p ≡ some w → w < 2 ^ 32
+unfolding wordIn
+words-lt image base ib p w e = go (inImage base (length image) p) e
+  where
+    go : (b : Bool) → pick b (some (numberAt image (minus p base))) none ≡ some w → w < 2 ^ 32
+    go true q =
+        let z : numberAt image (minus p base) ≡ w = cc in
+        subst (λ (x : ℕ). x < 2 ^ 32) z (number-lt image (minus p base) ib)
+    go false q = let z : _≡_ {A = ℕ} 0 1 = cc in absurd (omega arith)
+
+pub numbers-lt : (bs : List ℕ) → AllBytes bs → AllLt (numbersIn bs)
+unfolding numbersIn numbersOf
+numbers-lt bs a = all-lt-up (λ i. numberAt bs (4 * i)) (length bs / 4) (λ i. number-lt bs (4 * i) a)
+
+-- ---------------------------------------------------------------- good entries are aligned
+good-aligned : (base size e : ℕ) → e < 2 ^ 32 → badEntry base size e ≡ false → Aligned (plain e)
+unfolding badEntry plus
+good-aligned base size e l h = let z : e % 4 ≡ 0 = eqb-true (e % 4) 0 (go (eqb (e % 4) 0) h) in omega arith
+  where
+    go : (b : Bool) → not (b && inImage base size e) ≡ false → b ≡ true
+    go true q = refl
+    go false q = absurd (false≢true (sym q))
+
+pub entries-aligned : (base size : ℕ) (es : List ℕ) → AllLt es → anyBad base size es ≡ false → AllP Aligned (plains es)
+unfolding anyBad plains
+entries-aligned base size [] l h = tt
+entries-aligned base size (e ∷ es) l h = go (badEntry base size e) refl h (λ i. entries-aligned base size es (l .1) i)
+  where
+    go : (b : Bool) → badEntry base size e ≡ b → pick b true (anyBad base size es) ≡ false → (anyBad base size es ≡ false → AllP Aligned (plains es))
+        → Aligned (plain e) × AllP Aligned (plains es)
+    go true q i ih = absurd (false≢true (sym i))
+    go false q i ih = (good-aligned base size e (l .0) q, ih i)
+
+length-rows : (image : List ℕ) (base f : ℕ) (ps : List Place) → length (rowsFrom image base f ps) ≡ length ps
+unfolding rowsFrom
+length-rows image base f [] = refl
+length-rows image base f (y ∷ ys) = ap suc (length-rows image base (past (group image base y) f) ys)
+
+-- ---------------------------------------------------------------- acceptance
+module _ (image : List ℕ) (base : ℕ) (entryList : List ℕ) (placesLength recordsLength position P R : ℕ) where
+  abbrev Refused : Answer → Handed
+  Refused = refusal image base entryList placesLength recordsLength position
+
+  pub record Took (h : Handed) : Type 0 where
+    pub ps : List Place
+    pub made : placesOf image base (placeRoom placesLength) (numbersIn entryList) ≡ table ps
+    pub good : anyBad base (length image) (numbersIn entryList) ≡ false
+    pub table-bytes : take (16 * P) (h .places) ≡ bytesOf (tableNumbers (rowsOf image base ps))
+    pub record-bytes : take (12 * R) (h .records) ≡ bytesOf (recordsNumbers (recordsOf image base ps))
+
+  -- an answer that is no acceptance
+  abbrev refuses : Answer → Bool
+  refuses (Accepted p r) = false
+  refuses (ImageLength n) = true
+  refuses (Base a) = true
+  refuses (Entry k) = true
+  refuses (Forbidden a) = true
+  refuses (NoRoom a) = true
+  refuses (RecordsShort n) = true
+
+  refused-no : {A : Type 0} (a : Answer) → refuses a ≡ true → Refused a .answer ≡ Accepted P R → A
+  unfolding refusal
+  refused-no a r e = absurd (false≢true (sym (ap refuses e) ∙ r))
+
+  front : (ns : List ℕ) (size n : ℕ) → n ≡ 4 * length ns → take n (filled ns size) ≡ bytesOf ns
+  unfolding filled
+  front ns size n e = take-at (bytesOf ns) (replicate (size - length (bytesOf ns)) 0) n (omega (arith, length-bytes ns))
+
+  accepts : (ps : List Place) → placesOf image base (placeRoom placesLength) (numbersIn entryList) ≡ table ps
+      → anyBad base (length image) (numbersIn entryList) ≡ false → acceptance image base entryList placesLength recordsLength position ps .answer ≡ Accepted P R
+      → Took (acceptance image base entryList placesLength recordsLength position ps)
+  unfolding acceptance rowsOf
+  accepts ps q g e =
+      let a : length ps ≡ P = cc in
+      let b : length (recordsOf image base ps) ≡ R = cc in
+      record {
+        ps = ps;
+        made = q;
+        good = g;
+        table-bytes = front (tableNumbers (rowsFrom image base 0 ps)) placesLength (16 * P)
+            (omega (arith, length-table (rowsFrom image base 0 ps), length-rows image base 0 ps));
+        record-bytes = front (recordsNumbers (recordsOf image base ps)) recordsLength (12 * R) (omega (arith, length-records (recordsOf image base ps)));
+      }
+
+  past-test : (b : Bool) (a : Answer) (h : Handed) → refuses a ≡ true → (b ≡ false → h .answer ≡ Accepted P R → Took h)
+      → pick b (Refused a) h .answer ≡ Accepted P R → Took (pick b (Refused a) h)
+  past-test true a h r f e = refused-no a r e
+  past-test false a h r f e = f refl e
+
+  took-walk : anyBad base (length image) (numbersIn entryList) ≡ false → (y : Walked)
+      → placesOf image base (placeRoom placesLength) (numbersIn entryList) ≡ y
+      → fromWalk image base entryList placesLength recordsLength position y .answer ≡ Accepted P R
+      → Took (fromWalk image base entryList placesLength recordsLength position y)
+  unfolding fromWalk
+  took-walk g (refused n a) q e = past-test (eqb n 4) (Forbidden a) (Refused (NoRoom a)) refl (λ z. refused-no (NoRoom a) refl) e
+  took-walk g endless q e = refused-no (NoRoom 0) refl e
+  took-walk g (table ps) q e = go (leb (length (recordsOf image base ps)) (recordsLength / 12)) e
+    where
+      accepted : Handed
+      accepted = acceptance image base entryList placesLength recordsLength position ps
+
+      short : Handed
+      short = Refused (RecordsShort (length (recordsOf image base ps)))
+
+      go : (b : Bool) → pick b accepted short .answer ≡ Accepted P R → Took (pick b accepted short)
+      go true i = accepts ps q g i
+      go false i = refused-no (RecordsShort (length (recordsOf image base ps))) refl i
+
+  pub took : translation image base entryList placesLength recordsLength position .answer ≡ Accepted P R
+      → Took (translation image base entryList placesLength recordsLength position)
+  unfolding translation
+  took e =
+      past-test (badLength (length image)) (ImageLength (length image)) _ refl
+      (λ q1. past-test (not (eqb (base % 4) 0)) (Base base) _ refl
+      (λ q2. past-test (badCount (length (numbersIn entryList))) (Entry 0) _ refl
+      (λ q3. past-test (anyBad base (length image) (numbersIn entryList)) (Entry position) _ refl
+      (λ q4. took-walk q4 (placesOf image base (placeRoom placesLength) (numbersIn entryList)) refl)))) e

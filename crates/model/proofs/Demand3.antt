@@ -1,0 +1,268 @@
+-- Demand 3.
+use Prim.Native.Nat.{ℕ, zero, suc, _+_, _*_, _≤_, _<_}
+use native.Mathlib.Nat.{zero-add}
+use native.Mathlib.Numerals.{add-one}
+use native.Mathlib.Omega.{arith}
+use mathlib.Core.Path.{_≡_, refl, sym, ap, _∙_}
+use mathlib.Core.Logic.{_↔_}
+use mathlib.Core.Bool.{Bool, true, false}
+use mathlib.Core.List.{List, _∷_}
+use mathlib.Core.Option.{none, some}
+use lib.ListN.{length, getD, take}
+use lib.Seq.{take-take}
+use Rattle.numbers.specs.Number.{plus, upTo}
+use Rattle.numbers.proofs.Lists.{length-up, get-up, up-list}
+use Rattle.machine.specs.Ends.{Ending, ending, halt, State, state, live, settle}
+use Rattle.machine.specs.Effect.{Machine, machine}
+use Rattle.model.specs.declared.Place.{Place}
+use Rattle.model.specs.declared.Answer.the-variants.{Accepted}
+use Rattle.model.specs.Run.{step, run}
+use Rattle.model.specs.OldCore.{old, inImage, oldBegun}
+use Rattle.model.specs.Places.{plain, member, Makes}
+use Rattle.model.specs.Walk.{table, placesOf}
+use Rattle.model.specs.Records.{first, rowsOf, recordsOf, rowsIn, recordsIn, numbersIn}
+use Rattle.model.specs.NewCore.{New, new, seek, begunAt, newBegun}
+use Rattle.model.specs.Translation.{Handed, translation, placeRoom}
+use Rattle.model.specs.Trails.{Core, Trail, at, trail, entry, closing, opening, Unspent, stood}
+use Rattle.model.specs.Cores.{shownOf, Start, startMachine, oldOver, newOver, oldBegin, newBegin, stepsFor, trailOf}
+use Rattle.model.specs.Demand3.{AllBytes, Begins, Complete, Strays, Claim, Holds, Demand3}
+use Rattle.model.proofs.Hop.{Over}
+use Rattle.model.proofs.Trails.{steady-on, Cut, cuts, run-suc, traced-so, Ended, ends-so, closes-so}
+use Rattle.model.proofs.OldSide.{old-over}
+use Rattle.model.proofs.Groups.{sought, not-sought}
+use Rattle.model.proofs.NewSide.{toNew, new-over}
+use Rattle.model.proofs.Simulation.{Same, Closed}
+use Rattle.model.proofs.Comparison.{number, value, told, last-six, gaps-new, new-unspent, by-entries, by-take, old-unspent, oldTrail, old-first, gaps-old, newTrail, new-first, from-one, from-two}
+use Rattle.model.proofs.Six.{Fell, six-fell, six-fell-true, six-lands}
+use Rattle.model.proofs.Walk.{places-closed, places-fit, member-made, made-member}
+use Rattle.model.proofs.Packed.{table-back, records-back}
+use Rattle.model.proofs.Accepted.{words-lt, numbers-lt, entries-aligned, Took, took}
+
+-- ---------------------------------------------------------------- the first entry is the start
+shown-again : (m : Machine) → shownOf (shownOf m) ≡ shownOf m
+unfolding shownOf
+shown-again m =
+    let l : List ℕ = upTo (λ i. getD (m .registers) (i + 1) 0) 31 in
+    let k : length l ≡ 31 = length-up (λ i. getD (m .registers) (i + 1) 0) 31 in
+    let same : upTo (λ i. getD (0 ∷ l) (i + 1) 0) (length l) ≡ l = up-list 0 (λ i. getD (0 ∷ l) (i + 1) 0) l (λ i h. rw (add-one i)) in
+    let back : upTo (λ i. getD (0 ∷ l) (i + 1) 0) 31 ≡ l = rw k at same in
+    rw (back, take-take 65536 65536 (m .area) (omega arith))
+
+-- registers 1 to 31 are shown as they are
+get-other : (rs : List ℕ) (i : ℕ) → 1 ≤ i → i < 32 → getD (0 ∷ upTo (λ j. getD rs (j + 1) 0) 31) i 0 ≡ getD rs i 0
+get-other rs zero l h = absurd (omega arith)
+get-other rs (suc j) l h = get-up (λ i. getD rs (i + 1) 0) 31 j 0 (omega arith) ∙ ap (λ (z : ℕ). getD rs z 0) (add-one j)
+
+begins : (x : Start) (t rest : Trail) → t ≡ at 0 (x .address) (shownOf (startMachine x)) rest → Begins x t
+unfolding shownOf
+begins x t rest e =
+    record {
+      registers = 0 ∷ upTo (λ i. getD (x .registers) (i + 1) 0) 31;
+      flags = x .flags;
+      area = take 65536 (x .area);
+      rest = rest;
+      first = e ∙ ap (λ (m : Machine). at 0 (x .address) m rest) (shown-again (machine (x .registers) (x .flags) (x .area)));
+      thirty-two = ap suc (length-up (λ i. getD (x .registers) (i + 1) 0) 31);
+      register-0 = refl;
+      others = get-other (x .registers);
+      same-flags = refl;
+      same-bytes = refl;
+    }
+
+-- ---------------------------------------------------------------- the trail is complete
+halts-so : {S : Type 0} (c : Core S) (n v steps : ℕ) (x : State S) (last : S) → run (c .next) steps x ≡ live last → c .next last ≡ halt (ending (suc n) v)
+    → run (c .next) (suc steps) x ≡ state last (ending (suc n) v)
+unfolding step settle
+halts-so c n v steps x last g h = run-suc c steps x ∙ rw (g, h)
+
+complete : {S : Type 0} (c : Core S) → ((s : S) → Over c (c .next s)) → (k : ℕ) (s : S) → Unspent (trailOf c k (live s)) → Complete c k (live s)
+unfolding run
+complete c over k s u =
+    let q : trail c (stepsFor (suc k)) k 0 (live s) ≡ trailOf c k (live s) = steady-on c (stepsFor k) (stepsFor (suc k)) k 0 (live s) (omega arith) u in
+    let w : Cut c k (trail c (stepsFor (suc k)) k 0 (live s)) (trailOf c (suc k) (live s)) = cuts c (stepsFor (suc k)) k 0 (live s) (rw q u) in
+    record {
+      traced = traced-so c (stepsFor k) k 0 (live s) (live s) refl;
+      unspent = u;
+      steady = λ f l. steady-on c (stepsFor k) f k 0 (live s) l u;
+      full-cut = cuts c (stepsFor k) k 0 (live s) u .filled;
+      cut-where = (λ e. w .there (ap closing q ∙ e), λ e. sym (ap closing q) ∙ w .back e);
+      ends-as = λ n v e. let i : Ended c k n v (live s) = ends-so c over n v (stepsFor k) k 0 s e u in
+          (suc (i .steps), (i .last, halts-so c n v (i .steps) (live s) (i .last) (i .going) (i .halts)));
+    }
+
+is-six : (e : Ending) → number e ≡ 6 → e ≡ ending 6 (value e)
+is-six (ending n v) h = ap (λ (z : ℕ). ending z v) h
+
+-- ---------------------------------------------------------------- of a walk that gave ps, and bytes that hold its table and records
+module _ (image : List ℕ) (base db : ℕ) (es : List ℕ) (cap : ℕ) (ps : List Place) (records places : List ℕ)
+    (made : placesOf image base cap es ≡ table ps) (C : Closed image base ps) (few : length ps ≤ 8192)
+    (er : rowsIn places ≡ rowsOf image base ps) (ec : recordsIn records ≡ recordsOf image base ps) where
+  abbrev placed : ℕ → Type 0
+  placed a = Makes image base es (plain a)
+
+  abbrev N : Core New
+  N = newOver records places base (length image) db
+
+  in-list : (a : ℕ) → placed a → member ps (plain a) ≡ true
+  in-list a h = made-member image base cap es ps made C (plain a) h
+
+  not-in-list : (h : ℕ) → ¬ placed h → (b : Bool) → member ps (plain h) ≡ b → b ≡ false
+  not-in-list h n true q = absurd (n (member-made image base cap es ps made (plain h) q))
+  not-in-list h n false q = refl
+
+  module _ (k : ℕ) (lk : 1 ≤ k) (x y : Start) (hy : placed (y .address)) where
+    abbrev begun : New
+    begun = toNew image base db ps records places (plain (y .address)) 0 (startMachine y)
+
+    abbrev t : Trail
+    t = oldTrail image base db (stepsFor k) k (x .address) (startMachine x)
+
+    abbrev u : Trail
+    u = newTrail image base db ps records places er ec (stepsFor k) k (y .address) (startMachine y)
+
+    -- the old core begun where the new one is
+    abbrev beside : Trail
+    beside = oldTrail image base db (stepsFor k) k (y .address) (startMachine y)
+
+    abbrev strays : ℕ → Type 0
+    strays h = Strays placed (inImage base (length image)) (recordsIn records) N k (live begun) h
+
+    alike : Same 0 beside u
+    alike =
+        from-one image base db ps records places er ec C few (stepsFor k) (stepsFor k) k (y .address) (startMachine y) (omega arith) (omega arith)
+        (in-list (y .address) hy)
+
+    -- where the first entries are equal
+    same : opening t ≡ opening u → Same 0 t u
+    same e =
+        from-two image base db ps records places er ec C few (stepsFor k) (stepsFor k) k (x .address) (y .address) (startMachine x) (startMachine y)
+        (omega arith) (omega arith) lk (shown-again (machine (x .registers) (x .flags) (x .area))) (shown-again (machine (y .registers) (y .flags) (y .area)))
+        (in-list (y .address) hy) e
+
+    u-unspent : Unspent u
+    u-unspent = new-unspent beside u alike
+
+    t-unspent : Unspent t
+    t-unspent = old-unspent image base db (stepsFor k) k 0 (live (old (startMachine x) (x .address) (plus (x .address) 4) false)) (omega arith)
+
+    u-first : (rest : Trail) × (u ≡ at 0 (y .address) (shownOf (startMachine y)) rest)
+    u-first = new-first image base db ps records places er ec (stepsFor k) k (y .address) (startMachine y) (omega arith) lk (in-list (y .address) hy)
+
+    t-first : (rest : Trail) × (t ≡ at 0 (x .address) (shownOf (startMachine x)) rest)
+    t-first = old-first image base db (stepsFor k) k (x .address) (startMachine x) (omega arith) lk
+
+    -- ------------------------------------------------------------ end 6
+    missed : (g : ℕ) → seek (rowsIn places) g ≡ none → placed g → ⊥
+    unfolding rowsOf
+    missed g n p =
+        let q : seek (rowsIn places) g ≡ some (0 + first image base ps (plain g)) = rw er (sought image base ps 0 g (in-list g p)) in
+        let z : _≡_ {A = ℕ} 0 1 = cc in
+        omega arith
+
+    strays-of : (h steps : ℕ) (last : New) → run (N .next) steps (live begun) ≡ live last → N .next last ≡ halt (ending 6 h)
+        → (N .fell last ≡ true → stood N steps (live begun) < k) → strays h
+    strays-of h steps (new m r g) go ends room =
+        let f : Fell records places base (length image) db r g h = six-fell records places base (length image) db m r g h ends in
+        record {
+          steps = steps;
+          machine = m;
+          record-number = r;
+          going = rw (f .held-at) go;
+          kind-6 = f .kind-6;
+          in-image = rw (f .held-at) (f .in-image);
+          no-place = λ p. missed g (f .missed) (rw (f .held-at) at p);
+          room = room (six-fell-true records places base (length image) db m r g (f .kind-6));
+        }
+
+    six-there : (h : ℕ) → closing u ≡ ending 6 h → strays h
+    six-there h e =
+        let i : Ended N k 5 h (live begun) = ends-so N (new-over records places base (length image) db) 5 h (stepsFor k) k 0 begun e u-unspent in
+        strays-of h (i .steps) (i .last) (i .going) (i .halts) (i .room)
+
+    not-found : (h : ℕ) → ¬ placed h → seek (rowsIn places) h ≡ none
+    unfolding rowsOf
+    not-found h n = rw er (not-sought image base ps 0 h (not-in-list h n (member ps (plain h)) refl))
+
+    six-back : (h : ℕ) → strays h → closing u ≡ ending 6 h
+    six-back h s =
+        sym (ap closing (steady-on N (stepsFor k) (stepsFor k + suc (s .steps)) k 0 (live begun) (omega arith) u-unspent))
+        ∙ closes-so N (new-over records places base (length image) db) (shownOf (s .machine)) (ending 6 h) (new (s .machine) (s .record-number) h)
+        (six-lands records places base (length image) db (s .machine) (s .record-number) h (s .kind-6) (not-found h (s .no-place)) (s .in-image))
+        (s .steps) (stepsFor k + suc (s .steps)) k 0 begun (omega arith) (s .going) (s .room)
+
+    claim : Claim strays t u
+    claim =
+        record {
+          equal = λ none. (
+            λ p. by-entries t u (p .0),
+            λ e. told t u (same e) .equal (λ q. none (value (closing u)) (six-there (value (closing u)) (is-six (closing u) q))),
+          );
+          six = λ h. (six-there h, six-back h);
+          six-is-last = λ h s. last-six 0 beside u alike (ap number (six-back h s)) ∙ ap value (six-back h s);
+          six-equal = λ h s. (
+            by-take t u (entry (y .address) (shownOf (startMachine y))) (ap opening (u-first .1)),
+            λ e. told t u (same e) .six (ap number (six-back h s)),
+          );
+          new-pace = gaps-new beside u alike;
+          old-pace = gaps-old image base db (stepsFor k) k (x .address) (startMachine x) (omega arith) lk;
+        }
+
+    from-live : Holds placed (inImage base (length image)) (recordsIn records) k x y (oldOver image base db)
+        (live (old (startMachine x) (x .address) (plus (x .address) 4) false)) N (live begun)
+    from-live =
+        record {
+          old-begins = begins x t (t-first .0) (t-first .1);
+          new-begins = begins y u (u-first .0) (u-first .1);
+          old-complete = complete (oldOver image base db) (old-over image base db) k (old (startMachine x) (x .address) (plus (x .address) 4) false) t-unspent;
+          new-complete = complete N (new-over records places base (length image) db) k begun u-unspent;
+          claim = claim;
+        }
+
+    new-begun : newBegin places base (length image) y ≡ live begun
+    unfolding newBegun begunAt rowsOf
+    new-begun = rw (er, sought image base ps 0 (y .address) (in-list (y .address) hy), zero-add)
+
+    pub from-begin : Holds placed (inImage base (length image)) (recordsIn records) k x y (oldOver image base db) (oldBegin x) N
+        (newBegin places base (length image) y)
+    unfolding oldBegun
+    from-begin = rw new-begun from-live
+
+-- ------------------------------------------------------------------ of the bytes that the translator left
+pub demand3 : Demand3
+unfolding Demand3 placeRoom
+demand3 image base entryList placesLength recordsLength position placeCount recordCount ib eb handed eh answered x y hx hy db k lk places records et er =
+    let es = numbersIn entryList in
+    let tk : Took image base entryList placesLength recordsLength position placeCount recordCount
+    (translation image base entryList placesLength recordsLength position) =
+    took image base entryList placesLength recordsLength position placeCount recordCount (ap (λ (z : Handed). z .answer) (sym eh) ∙ answered) in
+    let C : Closed image base (tk .ps) =
+    places-closed image base (placeRoom placesLength) es (tk .ps) (entries-aligned base (length image) es (numbers-lt entryList eb) (tk .good)) (tk .made) in
+    let few : length (tk .ps) ≤ 8192 = omega (arith, places-fit image base (placeRoom placesLength) es (tk .ps) (tk .made)) in
+    from-begin image base db es (placeRoom placesLength) (tk .ps) records places (tk .made) C few
+    (ap rowsIn (et ∙ ap (λ (z : Handed). take (16 * placeCount) (z .places)) eh ∙ tk .table-bytes)
+    ∙ table-back image base (words-lt image base ib) (tk .ps) (C .aligned) few)
+    (ap recordsIn (er ∙ ap (λ (z : Handed). take (12 * recordCount) (z .records)) eh ∙ tk .record-bytes)
+    ∙ records-back image base (words-lt image base ib) (tk .ps) (C .aligned) few)
+    k lk x y hy
+
+-- demand 2: "The places .. of an accepted image are those that 01's rules make, and all of them."
+pub all-of-them : (image : List ℕ) (base : ℕ) (entryList : List ℕ) (placesLength recordsLength position placeCount recordCount : ℕ) → AllBytes entryList
+    → translation image base entryList placesLength recordsLength position .answer ≡ Accepted placeCount recordCount
+    → (ps : List Place) × ((placesOf image base (placeRoom placesLength) (numbersIn entryList) ≡ table ps)
+    × ((x : Place) → (member ps x ≡ true) ↔ Makes image base (numbersIn entryList) x))
+all-of-them image base entryList placesLength recordsLength position placeCount recordCount eb e =
+    let es = numbersIn entryList in
+    let tk : Took image base entryList placesLength recordsLength position placeCount recordCount
+    (translation image base entryList placesLength recordsLength position) =
+    took image base entryList placesLength recordsLength position placeCount recordCount e in
+    let C : Closed image base (tk .ps) =
+    places-closed image base (placeRoom placesLength) es (tk .ps) (entries-aligned base (length image) es (numbers-lt entryList eb) (tk .good)) (tk .made) in (
+      tk .ps,
+      (
+        tk .made,
+        λ x. (
+          member-made image base (placeRoom placesLength) es (tk .ps) (tk .made) x,
+          made-member image base (placeRoom placesLength) es (tk .ps) (tk .made) C x,
+        ),
+      ),
+    )

@@ -1,0 +1,88 @@
+-- Both cores with what 01 feeds each and nothing else, their starts, and the marks of their trails.
+use Prim.Native.Nat.{ℕ, _+_, _*_}
+use mathlib.Core.Bool.{Bool, true, false}
+use mathlib.Core.List.{List, [], _∷_}
+use mathlib.Core.Option.{Option, none, some}
+use lib.Dec.{eqb}
+use lib.ListN.{length, getD, getElem?}
+use Rattle.numbers.specs.Choice.{pick}
+use Rattle.numbers.specs.Number.{upTo}
+use Rattle.machine.specs.Ends.{State}
+use Rattle.machine.specs.Effect.{Machine, machine}
+use Rattle.model.specs.Run.{dataOf}
+use Rattle.model.specs.OldCore.{Old, old, oldNext, oldBegun}
+use Rattle.model.specs.Records.{Rec, doWord, link, hold, goIf, goTo, goHeld, stop, unknown, Row, row, rowsIn, recordsIn}
+use Rattle.model.specs.NewCore.{New, new, newNext, newBegun}
+use Rattle.model.specs.Trails.{Core, Trail, trailFrom}
+
+-- what an entry shows: "Register 0 reads and shows as 0", registers 1 to 31, the flags, and the data, of which there are at most 65,536 bytes
+unfoldable pub shownOf : Machine → Machine
+shownOf m = machine (0 ∷ upTo (λ i. getD (m .registers) (i + 1) 0) 31) (m .flags) (dataOf (m .area))
+
+-- "The old core's trail has an entry before each step in which annul is clear and the run has not ended, addresses outside the image included."
+unfoldable pub oldMark : Old → Option ℕ
+oldMark (old m pc npc true) = none
+oldMark (old m pc npc false) = some pc
+
+unfoldable pub oldShown : Old → Machine
+oldShown (old m pc npc annul) = shownOf m
+
+-- "The old core is fed image, base, data base, its own state and the data area, and nothing of a translation."
+abbrev pub oldOver : List ℕ → ℕ → ℕ → Core Old
+oldOver image base db = record { next = oldNext image base db; mark = oldMark; shown = oldShown; fell = λ s. false }
+
+-- "An entry also stands before each group's first record; its address is its place's, in a malformed table that of the lowest-numbered
+-- place naming that record"
+unfoldable pub naming : List Row → ℕ → Option ℕ
+naming [] r = none
+naming (row p n k f ∷ rs) r = pick (eqb f r) (some p) (naming rs r)
+
+unfoldable pub newMark : List ℕ → New → Option ℕ
+newMark places (new m r h) = naming (rowsIn places) r
+
+unfoldable pub newShown : New → Machine
+newShown (new m r h) = shownOf m
+
+-- whether the record at hand goes by the held address
+unfoldable pub goesByHeld : Option (Rec ℕ) → Bool
+goesByHeld none = false
+goesByHeld (some (doWord w)) = false
+goesByHeld (some (link p)) = false
+goesByHeld (some (hold w p)) = false
+goesByHeld (some (goIf c r)) = false
+goesByHeld (some (goTo r)) = false
+goesByHeld (some goHeld) = true
+goesByHeld (some (stop e p)) = false
+goesByHeld (some unknown) = false
+
+unfoldable pub newFell : List ℕ → New → Bool
+newFell records (new m r h) = goesByHeld (getElem? (recordsIn records) r)
+
+-- "The new core is given records, place table, base and image length", as bytes, and the data base.
+abbrev pub newOver : List ℕ → List ℕ → ℕ → ℕ → ℕ → Core New
+newOver records places base size db =
+    record { next = newNext records places base size db; mark = newMark places; shown = newShown; fell = newFell records }
+
+-- where a run begins, and with "any registers, flags and data"
+pub record Start : Type 0 where
+  pub address : ℕ
+  pub registers : List ℕ
+  pub flags : ℕ
+  pub area : List ℕ
+
+-- the machine that it begins with: register 0 is 0, and of the area there are 65,536 bytes
+abbrev pub startMachine : Start → Machine
+startMachine x = shownOf (machine (x .registers) (x .flags) (x .area))
+
+abbrev pub oldBegin : Start → State Old
+oldBegin x = oldBegun (x .address) (startMachine x)
+
+abbrev pub newBegin : List ℕ → ℕ → ℕ → Start → State New
+newBegin places base size x = newBegun places base size (x .address) (startMachine x)
+
+-- so many steps are enough for k entries and what closes them, since one or two lead from each to the next
+abbrev pub stepsFor : ℕ → ℕ
+stepsFor k = 2 * k + 1
+
+abbrev pub trailOf : {S : Type 0} → Core S → ℕ → State S → Trail
+trailOf c k x = trailFrom c (stepsFor k) k x

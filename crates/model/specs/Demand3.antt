@@ -1,0 +1,104 @@
+-- Demand 3 of the request. Above each part stand the words that it renders.
+use Prim.Native.Nat.{ℕ, suc, _*_, _≤_, _<_}
+use mathlib.Core.Path.{_≡_}
+use mathlib.Core.Logic.{_↔_}
+use mathlib.Core.Bool.{Bool, true}
+use mathlib.Core.List.{List, [], _∷_}
+use mathlib.Core.Option.{some}
+use lib.ListN.{getElem?, length, take, getD}
+use Rattle.machine.specs.Ends.{Ending, ending, State, state, live}
+use Rattle.machine.specs.Effect.{Machine, machine}
+use Rattle.model.specs.declared.Answer.the-variants.{Accepted}
+use Rattle.model.specs.Run.{run}
+use Rattle.model.specs.OldCore.{Old, inImage}
+use Rattle.model.specs.Places.{plain, Makes}
+use Rattle.model.specs.Records.{Rec, goHeld, numbersIn, recordsIn}
+use Rattle.model.specs.NewCore.{New, new}
+use Rattle.model.specs.Translation.{Handed, translation}
+use Rattle.model.specs.Trails.{Core, Trail, at, trailFrom, entries, closing, opening, lastAt, gaps, OneOrTwo, Unspent, stood, Traced}
+use Rattle.model.specs.Cores.{Start, oldOver, newOver, oldBegin, newBegin, stepsFor, trailOf}
+
+-- an area of bytes
+abbrev pub AllBytes : List ℕ → Type 0
+AllBytes [] = Unit {0}
+AllBytes (b ∷ bs) = (b < 256) × AllBytes bs
+
+-- "any address with a plain place to begin at": 01, "where the rules under Places make one from image, base and entry list"
+abbrev pub Placed : List ℕ → ℕ → List ℕ → ℕ → Type 0
+Placed image base entryList a = Makes image base (numbersIn entryList) (plain a)
+
+-- "An entry is the address about to be executed, all registers, flags and data bytes": the first, after 0 steps, is the start itself
+pub record Begins (x : Start) (t : Trail) : Type 0 where
+  pub registers : List ℕ
+  pub flags : ℕ
+  pub area : List ℕ
+  pub rest : Trail
+  pub first : t ≡ at 0 (x .address) (machine registers flags area) rest
+  pub thirty-two : length registers ≡ 32
+  pub register-0 : getD registers 0 0 ≡ 0
+  pub others : (i : ℕ) → 1 ≤ i → i < 32 → getD registers i 0 ≡ getD (x .registers) i 0
+  pub same-flags : flags ≡ x .flags
+  pub same-bytes : area ≡ take 65536 (x .area)
+
+-- 01: "A trail is made of its core's steps alone": each entry is that of the state so many steps after the last one's, and no count of
+-- steps from the bound up makes another trail.
+-- 01: "A trail cut at k entries closes with 0 where entry k + 1 would come; any other closes with its end and that end's number."
+pub record Complete {S : Type 0} (c : Core S) (k : ℕ) (x : State S) : Type 0 where
+  pub traced : Traced c x (trailOf c k x)
+  pub unspent : Unspent (trailOf c k x)
+  pub steady : (count : ℕ) → stepsFor k ≤ count → trailFrom c count k x ≡ trailOf c k x
+  pub full-cut : closing (trailOf c k x) ≡ ending 0 0 → length (entries (trailOf c k x)) ≡ k
+  pub cut-where : (closing (trailOf c k x) ≡ ending 0 0) ↔ (length (entries (trailOf c (suc k) x)) ≡ suc k)
+  pub ends-as : (n v : ℕ) → closing (trailOf c k x) ≡ ending (suc n) v
+      → (steps : ℕ) × ((s : S) × (run (c .next) steps x ≡ state s (ending (suc n) v)))
+
+-- "where the new core goes by a held address that lies in the image and has no plain place, and the cut leaves room for the entry at
+-- that address": h is that address
+pub record Strays (placed : ℕ → Type 0) (inside : ℕ → Bool) (records : List (Rec ℕ)) (c : Core New) (k : ℕ) (x : State New) (h : ℕ) : Type 0 where
+  pub steps : ℕ
+  pub machine : Machine
+  pub record-number : ℕ
+  pub going : run (c .next) steps x ≡ live (new machine record-number h)
+  pub kind-6 : getElem? records record-number ≡ some goHeld
+  pub in-image : inside h ≡ true
+  pub no-place : ¬ placed h
+  pub room : stood c steps x < k
+
+-- the claim of an old trail t and a new trail u, where `strays h` says that the exception holds at h
+pub record Claim (strays : ℕ → Type 0) (t u : Trail) : Type 0 where
+  -- "the old core's trail over the image and the new core's over its translation are equal exactly when their first entries are"
+  pub equal : ((h : ℕ) → ¬ strays h) → ((entries t ≡ entries u) × (closing t ≡ closing u)) ↔ (opening t ≡ opening u)
+  -- "the new trail ends there with end 6, as it does nowhere else"
+  pub six : (h : ℕ) → (closing u ≡ ending 6 h) ↔ strays h
+  pub six-is-last : (h : ℕ) → strays h → lastAt (entries u) 0 ≡ h
+  -- "both are then compared up to and including that entry, but not beyond it and not in how they close"
+  pub six-equal : (h : ℕ) → strays h → (take (length (entries u)) (entries t) ≡ entries u) ↔ (opening t ≡ opening u)
+  -- "From each entry to the next the new core does one or two records and the old core passes one or two words, annulled ones counted."
+  pub new-pace : OneOrTwo (gaps u)
+  pub old-pace : OneOrTwo (gaps t)
+
+-- the two cores, o begun as a and n begun as b, and their trails cut at k
+pub record Holds (placed : ℕ → Type 0) (inside : ℕ → Bool) (records : List (Rec ℕ)) (k : ℕ) (x y : Start)
+    (o : Core Old) (a : State Old) (n : Core New) (b : State New) : Type 0 where
+  pub old-begins : Begins x (trailOf o k a)
+  pub new-begins : Begins y (trailOf n k b)
+  pub old-complete : Complete o k a
+  pub new-complete : Complete n k b
+  pub claim : Claim (Strays placed inside records n k b) (trailOf o k a) (trailOf n k b)
+
+unfoldable pub Demand3 : Type 0
+Demand3 =
+    -- "Take any accepted image, base and entry list", as bytes, whatever the lengths of the buffers
+    (image : List ℕ) (base : ℕ) (entryList : List ℕ) (placesLength recordsLength position placeCount recordCount : ℕ)
+    → AllBytes image → AllBytes entryList
+    → (handed : Handed) → handed ≡ translation image base entryList placesLength recordsLength position
+    → handed .answer ≡ Accepted placeCount recordCount
+    -- "for each core, any address with a plain place to begin at and any registers, flags and data"
+    → (x y : Start) → Placed image base entryList (x .address) → Placed image base entryList (y .address)
+    -- "one data base; and any number of entries, at least one, at which both trails are cut"
+    → (db k : ℕ) → 1 ≤ k
+    -- 01: "Over a translation it is given just the places and records counted, no zeros past them."
+    → (places records : List ℕ) → places ≡ take (16 * placeCount) (handed .places) → records ≡ take (12 * recordCount) (handed .records)
+    → Holds (Placed image base entryList) (inImage base (length image)) (recordsIn records) k x y
+    (oldOver image base db) (oldBegin x)
+    (newOver records places base (length image) db) (newBegin places base (length image) y)

@@ -1,0 +1,139 @@
+-- 01, Records of the new core: trails, of any core. "A trail is made of its core's steps alone. Each step gets the state and data that
+-- the last one left, and nobody else writes them meanwhile".
+use Prim.Native.Nat.{ℕ, zero, suc, _+_, _≤_}
+use mathlib.Core.Path.{_≡_}
+use mathlib.Core.Bool.{Bool, true, false}
+use mathlib.Core.List.{List, [], _∷_}
+use mathlib.Core.Option.{Option, none, some}
+use Rattle.machine.specs.Ends.{Ending, ending, Next, State, state, live}
+use Rattle.machine.specs.Effect.{Machine}
+use Rattle.model.specs.Run.{step, run}
+
+-- next: what a step does. mark: the address of the entry that stands before the step, if one does. shown: the registers, flags and
+-- data of that entry. fell: whether an end met here is that of a landing without a place, whose entry the trail gains.
+pub record Core (S : Type 0) : Type 0 where
+  pub next : S → Next S
+  pub mark : S → Option ℕ
+  pub shown : S → Machine
+  pub fell : S → Bool
+
+-- at: the steps since the entry before, "the address about to be executed, all registers, flags and data bytes", and what follows.
+-- shut: "how the run ended, with its number, closes the trail". cut: entry k + 1 would come here. spent: the given count of steps is done.
+pub data Trail : Type 0 where
+  cut spent : Trail
+  shut : Ending → Trail
+  at : ℕ → ℕ → Machine → Trail → Trail
+
+-- "with none, the trail gains an entry at that address and ends", where the cut leaves room for it
+abbrev pub landing : ℕ → ℕ → ℕ → Machine → Ending → Trail
+landing zero gap a m e = cut
+landing (suc k) gap a m e = at gap a m (shut e)
+
+abbrev pub closes : Bool → ℕ → ℕ → Machine → Ending → Trail
+closes true k gap m (ending n a) = landing k gap a m (ending n a)
+closes false k gap m e = shut e
+
+module _ {S : Type 0} where
+  -- the state before a step: an entry, if one stands there, and then the trail of the state that the step leaves
+  abbrev pub turn : (ℕ → ℕ → State S → Trail) → ℕ → ℕ → Option ℕ → Machine → State S → Trail
+  turn rest k gap none m x = rest k (suc gap) x
+  turn rest zero gap (some a) m x = cut
+  turn rest (suc k) gap (some a) m x = at gap a m (rest k 1 x)
+
+  -- the trail of a state that is going, or how it closes
+  abbrev pub look : Core S → (S → Trail) → ℕ → ℕ → State S → Trail
+  look c going k gap (state s (ending zero v)) = going s
+  look c going k gap (state s (ending (suc n) v)) = closes (c .fell s) k gap (c .shown s) (ending (suc n) v)
+
+  -- the trail that a state's steps make, cut at k entries, of a run of the given count; `gap` steps were done since the last entry
+  abbrev pub trail : Core S → ℕ → ℕ → ℕ → State S → Trail
+  trail c zero k gap x = look c (λ s. spent) k gap x
+  trail c (suc count) k gap x =
+      look c (λ s. turn (trail c count) k gap (c .mark s) (c .shown s) (step (c .next) (live s))) k gap x
+
+  -- the trail of a run just begun; "with none, as kind 6 would": one that ended as it was begun has the one entry at its address
+  abbrev pub trailFrom : Core S → ℕ → ℕ → State S → Trail
+  trailFrom c count k (state s (ending zero v)) = trail c count k 0 (state s (ending zero v))
+  trailFrom c count k (state s (ending (suc n) v)) = closes true k 0 (c .shown s) (ending (suc n) v)
+
+-- an entry: "the address about to be executed, all registers, flags and data bytes"
+pub data Entry : Type 0 where
+  entry : ℕ → Machine → Entry
+
+abbrev pub entries : Trail → List Entry
+entries cut = []
+entries spent = []
+entries (shut e) = []
+entries (at gap a m t) = entry a m ∷ entries t
+
+-- "A trail cut at k entries closes with 0 where entry k + 1 would come; any other closes with its end and that end's number."
+-- So does, with 0, the trail of a run whose count was done.
+abbrev pub closing : Trail → Ending
+closing cut = ending 0 0
+closing spent = ending 0 0
+closing (shut e) = e
+closing (at gap a m t) = closing t
+
+-- the first entry
+abbrev pub opening : Trail → Option Entry
+opening cut = none
+opening spent = none
+opening (shut e) = none
+opening (at gap a m t) = some (entry a m)
+
+-- the address of the last entry, or a where there is none
+abbrev pub lastAt : List Entry → ℕ → ℕ
+lastAt [] a = a
+lastAt (entry b m ∷ es) a = lastAt es b
+
+-- "From each entry to the next": the steps that lead to each entry after the first
+abbrev pub later : Trail → List ℕ
+later cut = []
+later spent = []
+later (shut e) = []
+later (at gap a m t) = gap ∷ later t
+
+abbrev pub gaps : Trail → List ℕ
+gaps cut = []
+gaps spent = []
+gaps (shut e) = []
+gaps (at gap a m t) = later t
+
+-- "one or two"
+abbrev pub OneOrTwo : List ℕ → Type 0
+OneOrTwo [] = Unit {0}
+OneOrTwo (n ∷ ns) = ((1 ≤ n) × (n ≤ 2)) × OneOrTwo ns
+
+-- the trail did not stop because its count of steps was done
+abbrev pub Unspent : Trail → Type 0
+Unspent cut = Unit {0}
+Unspent spent = ⊥
+Unspent (shut e) = Unit {0}
+Unspent (at gap a m t) = Unspent t
+
+-- a trail held against the runs of its core
+abbrev pub oneIf : Option ℕ → ℕ
+oneIf none = 0
+oneIf (some a) = 1
+
+module _ {S : Type 0} where
+  -- how many entries stand before the states after 0, 1, .. n steps
+  abbrev pub counted : Core S → State S → ℕ
+  counted c (state s (ending zero v)) = oneIf (c .mark s)
+  counted c (state s (ending (suc n) v)) = 0
+
+  abbrev pub stood : Core S → ℕ → State S → ℕ
+  stood c zero x = counted c x
+  stood c (suc n) x = counted c x + stood c n (step (c .next) x)
+
+  -- the entry a, m stands before the state's step, or is a landing's
+  abbrev pub StandsAt : Core S → State S → ℕ → Machine → Type 0
+  StandsAt c (state s (ending zero v)) a m = (c .mark s ≡ some a) × (c .shown s ≡ m)
+  StandsAt c (state s (ending (suc n) v)) a m = (c .fell s ≡ true) × (v ≡ a) × (c .shown s ≡ m)
+
+  -- from the state at one entry (first: the start), as many steps as the trail says lead to the state at the next
+  abbrev pub Traced : Core S → State S → Trail → Type 0
+  Traced c x cut = Unit {0}
+  Traced c x spent = Unit {0}
+  Traced c x (shut e) = Unit {0}
+  Traced c x (at gap a m t) = StandsAt c (run (c .next) gap x) a m × Traced c (run (c .next) gap x) t
