@@ -7,6 +7,8 @@
 //! reading file KIND SEED COUNT random cases as a file of numbers; KIND is translate, old_core or
 //!                              new_core
 //! reading listing              01's listing of the image on standard input
+//! reading translate BASE ENTRY...
+//!                              the translation of the image on standard input, as lines
 //! ```
 //!
 //! # The lines of `cases`
@@ -43,6 +45,9 @@
 //! Past the places and records shown, both lent buffers hold zeros. An accepted image's start has a plain
 //! place; a refused one's may be any address. The steps to the close are those up to the point where entry
 //! K + 1 would come, or up to the end, the step that ended the run included.
+//!
+//! `translate` prints the lines answer, bad, place and record of such a case; the lent buffers have room for
+//! 8,192 places and all of their records.
 
 use std::collections::BTreeMap;
 use std::env;
@@ -67,6 +72,7 @@ fn main() -> ExitCode {
     let arguments: Vec<String> = env::args().skip(1).collect();
     let words: Vec<&str> = arguments.iter().map(String::as_str).collect();
     let number = |text: &str| text.parse::<u64>().ok();
+    let address = |text: &str| text.parse::<u32>().ok();
     let done = match words[..] {
         ["cases", seed, count] => number(seed).zip(number(count)).map(|(s, c)| cases(s, c)),
         ["claim", seed, count] => number(seed).zip(number(count)).map(|(s, c)| claim(s, c)),
@@ -77,6 +83,9 @@ fn main() -> ExitCode {
                 .map(|(s, c)| file(kind, s, c))
         }
         ["listing"] => Some(listing()),
+        ["translate", base, ref entries @ ..] => address(base)
+            .zip(entries.iter().copied().map(address).collect())
+            .map(|(b, e)| translated(b, e)),
         _ => None,
     };
     match done {
@@ -93,6 +102,7 @@ fn main() -> ExitCode {
             eprintln!("       reading census SEED COUNT");
             eprintln!("       reading file translate|old_core|new_core SEED COUNT");
             eprintln!("       reading listing < IMAGE");
+            eprintln!("       reading translate BASE ENTRY... < IMAGE");
             ExitCode::from(2)
         }
     }
@@ -231,6 +241,27 @@ fn print_program(out: &mut impl Write, program: &Program) -> io::Result<()> {
     line(out, "entries", &program.entries)
 }
 
+fn print_outcome(out: &mut impl Write, outcome: &Result<Translation, Refusal>) -> io::Result<()> {
+    let answer = answers(outcome)[0];
+    let numbers = [answer.number as u64, answer.first, answer.second];
+    line(out, "answer", numbers)?;
+    match outcome {
+        Err(Refusal::Entries(positions)) => line(out, "bad", positions)?,
+        Err(_) => {}
+        Ok(translation) => {
+            for row in &translation.rows {
+                let numbers = [row.address, row.next, row.kind, row.first_record];
+                line(out, "place", numbers)?;
+            }
+            for record in &translation.records {
+                let numbers = [record.kind, record.first, record.second];
+                line(out, "record", numbers)?;
+            }
+        }
+    }
+    Ok(())
+}
+
 fn cases(seed: u64, count: u64) -> io::Result<ExitCode> {
     let mut random = Random::new(seed);
     let mut out = BufWriter::new(io::stdout().lock());
@@ -242,26 +273,7 @@ fn cases(seed: u64, count: u64) -> io::Result<ExitCode> {
         line(&mut out, "records_length", [case.records_length])?;
         print_start(&mut out, &case.start)?;
         line(&mut out, "cut", [case.cut])?;
-        let answer = answers(&case.outcome)[0];
-        line(
-            &mut out,
-            "answer",
-            [answer.number as u64, answer.first, answer.second],
-        )?;
-        match &case.outcome {
-            Err(Refusal::Entries(positions)) => line(&mut out, "bad", positions)?,
-            Err(_) => {}
-            Ok(translation) => {
-                for row in &translation.rows {
-                    let numbers = [row.address, row.next, row.kind, row.first_record];
-                    line(&mut out, "place", numbers)?;
-                }
-                for record in &translation.records {
-                    let numbers = [record.kind, record.first, record.second];
-                    line(&mut out, "record", numbers)?;
-                }
-            }
-        }
+        print_outcome(&mut out, &case.outcome)?;
         print_trail(&mut out, "old", &case.old)?;
         if let Some(new) = &case.new {
             print_trail(&mut out, "new", new)?;
@@ -536,4 +548,20 @@ fn listing() -> io::Result<ExitCode> {
     io::stdin().lock().read_to_end(&mut input)?;
     print!("{}", reading::listing::listing(&input));
     Ok(ExitCode::SUCCESS)
+}
+
+fn translated(base: u32, entries: Vec<u32>) -> io::Result<ExitCode> {
+    let mut input = vec![];
+    io::stdin().lock().read_to_end(&mut input)?;
+    let image = Image {
+        bytes: &input,
+        base,
+    };
+    let outcome = translate(image, &bytes(entries), 8_192 * 16, 2 * 8_192 * 12);
+    print_outcome(&mut io::stdout().lock(), &outcome)?;
+    Ok(if outcome.is_ok() {
+        ExitCode::SUCCESS
+    } else {
+        ExitCode::FAILURE
+    })
 }
