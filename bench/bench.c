@@ -1,0 +1,122 @@
+/* Measures the library's side of a core against the rival's.
+ *
+ *   bench_CORE                times three loops on both sides
+ *   bench_CORE --round LOOP   one round of one loop, to count instructions in
+ *   bench_CORE --check FILE   holds both sides to the cases of a vectors file
+ *
+ * The exit status is 0 if both sides agree throughout.
+ */
+#define _POSIX_C_SOURCE 199309L
+
+#include "bench.h"
+
+#include <stdio.h>
+#include <stdlib.h>
+#include <string.h>
+#include <time.h>
+
+#include "numbers.h"
+
+enum {
+    ROUNDS = 50, /* short ones, so that some fall into quiet moments of the machine */
+    STEPS_A_ROUND = 1000000,
+    COUNT = 65535 /* steps a call, the most that a call does */
+};
+
+struct side {
+    uint8_t state[STATE_LIMIT];
+    uint8_t data[DATA_LENGTH];
+    double best; /* seconds of the fastest round */
+};
+
+static void begin(const struct core *core, const struct program *program, struct side *side)
+{
+    memset(side->state, 0, sizeof side->state);
+    core->begin(program, side->state);
+    for (size_t i = 0; i < DATA_LENGTH; i++)
+        side->data[i] = (uint8_t)(i * 37 + 11);
+    side->best = 1e9;
+}
+
+/* The time that this process was given, so that others on the machine count less. */
+static double seconds(void)
+{
+    struct timespec now;
+    clock_gettime(CLOCK_PROCESS_CPUTIME_ID, &now);
+    return (double)now.tv_sec + (double)now.tv_nsec * 1e-9;
+}
+
+static void round_of(run_function *run, const struct program *program, struct side *side)
+{
+    double start = seconds(), took;
+    for (uint32_t left = STEPS_A_ROUND; left > 0;) {
+        uint16_t count = left < COUNT ? (uint16_t)left : COUNT;
+        run(program, side->state, side->data, DATA_LENGTH, count);
+        left -= count;
+    }
+    took = seconds() - start;
+    if (took < side->best)
+        side->best = took;
+}
+
+/* Both sides are still going, with equal states and data. */
+static bool equal(const struct core *core, const struct side *library, const struct side *rival)
+{
+    return word_at(rival->state + core->state_length - 8) == 0
+        && memcmp(rival->state, library->state, core->state_length) == 0
+        && memcmp(rival->data, library->data, DATA_LENGTH) == 0;
+}
+
+static bool measure(const struct core *core, int number, int rounds)
+{
+    static struct side library, rival;
+    struct loop loop = loop_at(number);
+    struct program program = core->program_of(number, &loop);
+    double library_ns, rival_ns;
+    begin(core, &program, &library);
+    begin(core, &program, &rival);
+    for (int i = 0; i < rounds; i++) {
+        round_of(core->library, &program, &library);
+        round_of(core->rival, &program, &rival);
+    }
+    if (!equal(core, &library, &rival)) {
+        printf("%-10s  the two sides differ, or the loop ended\n", loop.name);
+        return false;
+    }
+    library_ns = library.best * 1e9 / STEPS_A_ROUND;
+    rival_ns = rival.best * 1e9 / STEPS_A_ROUND;
+    printf("%-10s  %10.2f  %10.2f  %9.2f\n", loop.name, library_ns, rival_ns, library_ns / rival_ns);
+    return true;
+}
+
+static int benchmark(const struct core *core)
+{
+    bool good = true;
+    printf("%s, nanoseconds a step: the best of %d rounds of %d steps on each side, in turn\n",
+           core->name, ROUNDS, STEPS_A_ROUND);
+    printf("%-10s  %10s  %10s  %9s\n", "loop", "library", "C", "library/C");
+    for (int i = 0; i < LOOPS; i++)
+        good = measure(core, i, ROUNDS) && good;
+    return good ? EXIT_SUCCESS : EXIT_FAILURE;
+}
+
+static int one_round(const struct core *core, const char *name)
+{
+    for (int i = 0; i < LOOPS; i++)
+        if (strcmp(loop_at(i).name, name) == 0)
+            return measure(core, i, 1) ? EXIT_SUCCESS : EXIT_FAILURE;
+    fprintf(stderr, "no loop %s\n", name);
+    return 2;
+}
+
+int bench(const struct core *core, int argc, char **argv)
+{
+    if (argc == 1)
+        return benchmark(core);
+    if (argc == 3 && strcmp(argv[1], "--round") == 0)
+        return one_round(core, argv[2]);
+    if (argc == 3 && strcmp(argv[1], "--check") == 0)
+        return check(core, argv[2]);
+    fprintf(stderr, "usage: %s [--round LOOP | --check FILE]\n", argv[0]);
+    return 2;
+}

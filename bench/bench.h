@@ -1,0 +1,54 @@
+/* What the benchmarks of both cores share: each core's functions behind one face, timing, and the check of vectors. */
+#ifndef BENCH_H
+#define BENCH_H
+
+#include <stdbool.h>
+
+#include "loops.h"
+#include "pijorrel.h"
+
+/* What a core is given beside its state and data: the old core the image, the new core places, records and the
+ * image's length. */
+struct program {
+    const uint8_t *image, *places, *records;
+    size_t image_length, places_length, records_length;
+    uint32_t base, data_base;
+};
+
+typedef struct pijorrel_end run_function(const struct program *program, uint8_t *state,
+                                         uint8_t *data, size_t data_length, uint16_t count);
+
+/* A vectors file being read: numbers of four bytes, areas padded to a multiple of four. */
+struct reader {
+    const uint8_t *bytes;
+    size_t length;
+    size_t at;
+    bool short_of; /* something was read past the end */
+};
+
+uint32_t take_number(struct reader *reader);
+const uint8_t *take_area(struct reader *reader, size_t length);
+
+/* The longer of both cores' states. */
+enum { STATE_LIMIT = PIJORREL_OLD_STATE };
+
+struct core {
+    const char *name;
+    size_t state_length; /* its last two numbers are the end and what belongs to it */
+    run_function *library, *rival;
+    /* A loop (by number) as a program, and the state that begins it. */
+    struct program (*program_of)(int number, const struct loop *loop);
+    void (*begin)(const struct program *program, uint8_t *state);
+    /* Of a case in a vectors file: its mark, the numbers up to the data base, the areas before the data. */
+    uint32_t mark;
+    void (*take_numbers)(struct reader *reader, struct program *program);
+    void (*take_areas)(struct reader *reader, struct program *program);
+};
+
+/* Holds both sides to the cases of a file; an exit status. */
+int check(const struct core *core, const char *path);
+
+/* A benchmark's main. */
+int bench(const struct core *core, int argc, char **argv);
+
+#endif

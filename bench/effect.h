@@ -1,0 +1,224 @@
+/* What the rivals of both cores share: registers, flags, ends, the data area, and the effect of every word that does
+ * not transfer control. Each rival includes it, so that its compiler sees all of it at once. */
+#ifndef RIVAL_EFFECT_H
+#define RIVAL_EFFECT_H
+
+#include <stdbool.h>
+#include <stddef.h>
+#include <stdint.h>
+
+#include "machine.h"
+#include "numbers.h"
+#include "v8.h"
+
+#define DATA_LIMIT 65536u
+
+enum end {
+    END_TRAP = 1,
+    END_OUTSIDE = 2,
+    END_ILLEGAL = 3,
+    END_MISALIGNED = 4,
+    END_UNFIT = 5,
+    END_NO_PLACE = 6,
+    END_BAD_RECORD = 7
+};
+
+/* One bit for each flag value, lowest first. */
+static const uint16_t conditions[16] = {
+    0x0000, 0xF0F0, 0xF3FC, 0x33CC, 0xFAFA, 0xAAAA, 0xFF00, 0xCCCC,
+    0xFFFF, 0x0F0F, 0x0C03, 0xCC33, 0x0505, 0x5555, 0x00FF, 0x3333
+};
+
+struct area {
+    uint8_t *bytes;
+    size_t length;
+    uint32_t base;
+};
+
+/* Of a lent data area the first 65,536 bytes exist. */
+static inline struct area data_area(uint8_t *data, size_t length, uint32_t base)
+{
+    return (struct area){ data, length < DATA_LIMIT ? length : DATA_LIMIT, base };
+}
+
+/* ---- fields of a word */
+
+/* Spreads the given sign bit over the bits above it. */
+static inline uint32_t extended(uint32_t value, uint32_t sign)
+{
+    return (value ^ sign) - sign;
+}
+
+static inline uint32_t rd(uint32_t word) { return word >> 25 & 31; }
+static inline uint32_t rs1(uint32_t word) { return word >> 14 & 31; }
+static inline uint32_t op2(uint32_t word) { return word >> 22 & 7; }
+static inline uint32_t op3(uint32_t word) { return word >> 19 & 63; }
+static inline uint32_t cond(uint32_t word) { return word >> 25 & 15; }
+static inline uint32_t annul_bit(uint32_t word) { return word >> 29 & 1; }
+static inline uint32_t disp22(uint32_t word) { return extended(word & 0x3FFFFF, 0x200000) << 2; }
+
+static inline uint32_t operand(const struct machine *m, uint32_t word)
+{
+    if (word & 0x2000)
+        return extended(word & 0x1FFF, 0x1000);
+    return m->registers[word & 31];
+}
+
+/* ---- registers, flags and ends */
+
+/* Register 0 keeps its 0, so that reading needs no test. */
+static inline void put_register(struct machine *m, uint32_t number, uint32_t value)
+{
+    m->registers[number] = value;
+    m->registers[0] = 0;
+}
+
+static inline void stop(struct machine *m, uint32_t end, uint32_t number)
+{
+    m->end.end = end;
+    m->end.number = number;
+}
+
+static inline bool holds(const struct machine *m, uint32_t condition)
+{
+    return conditions[condition] >> m->flags & 1;
+}
+
+/* ---- arithmetic: each gives its result and, in the flag forms, sets the flags */
+
+static inline uint32_t flags_of(uint32_t result, uint32_t overflow, uint32_t carry)
+{
+    return (result >> 31) << 3 | (uint32_t)(result == 0) << 2 | overflow << 1 | carry;
+}
+
+static inline uint32_t sum(struct machine *m, uint32_t a, uint32_t b, uint32_t carry, bool cc)
+{
+    uint64_t wide = (uint64_t)a + b + carry;
+    uint32_t result = (uint32_t)wide;
+    if (cc)
+        m->flags = flags_of(result, ((a ^ result) & (b ^ result)) >> 31, (uint32_t)(wide >> 32));
+    return result;
+}
+
+static inline uint32_t difference(struct machine *m, uint32_t a, uint32_t b, uint32_t carry, bool cc)
+{
+    uint32_t result = a - b - carry;
+    if (cc)
+        m->flags = flags_of(result, ((a ^ b) & (a ^ result)) >> 31, (uint64_t)b + carry > a);
+    return result;
+}
+
+static inline uint32_t logic(struct machine *m, uint32_t result, bool cc)
+{
+    if (cc)
+        m->flags = flags_of(result, 0, 0);
+    return result;
+}
+
+/* The sign comes in from the left: C leaves this shift to the compiler, and gcc and clang promise it. */
+static inline uint32_t shifted_signed(uint32_t a, uint32_t by)
+{
+    return (uint32_t)((int32_t)a >> by);
+}
+
+static inline void trap(struct machine *m, uint32_t word, uint32_t number)
+{
+    if (holds(m, cond(word)))
+        stop(m, END_TRAP, number % 128);
+}
+
+/* What came of a word: its effect or the end it brings is done, or it is left to the core that asked. */
+enum outcome { DONE, JMPL, ILLEGAL };
+
+static inline enum outcome arithmetic(struct machine *m, uint32_t word)
+{
+    uint32_t a = m->registers[rs1(word)];
+    uint32_t b = operand(m, word);
+    uint32_t carry = m->flags & 1;
+    uint32_t result;
+
+    switch (op3(word)) {
+    case OP3_ADD: result = sum(m, a, b, 0, false); break;
+    case OP3_AND: result = logic(m, a & b, false); break;
+    case OP3_OR: result = logic(m, a | b, false); break;
+    case OP3_XOR: result = logic(m, a ^ b, false); break;
+    case OP3_SUB: result = difference(m, a, b, 0, false); break;
+    case OP3_ANDN: result = logic(m, a & ~b, false); break;
+    case OP3_ORN: result = logic(m, a | ~b, false); break;
+    case OP3_XNOR: result = logic(m, a ^ ~b, false); break;
+    case OP3_ADDX: result = sum(m, a, b, carry, false); break;
+    case OP3_SUBX: result = difference(m, a, b, carry, false); break;
+    case OP3_ADD | OP3_CC: result = sum(m, a, b, 0, true); break;
+    case OP3_AND | OP3_CC: result = logic(m, a & b, true); break;
+    case OP3_OR | OP3_CC: result = logic(m, a | b, true); break;
+    case OP3_XOR | OP3_CC: result = logic(m, a ^ b, true); break;
+    case OP3_SUB | OP3_CC: result = difference(m, a, b, 0, true); break;
+    case OP3_ANDN | OP3_CC: result = logic(m, a & ~b, true); break;
+    case OP3_ORN | OP3_CC: result = logic(m, a | ~b, true); break;
+    case OP3_XNOR | OP3_CC: result = logic(m, a ^ ~b, true); break;
+    case OP3_ADDX | OP3_CC: result = sum(m, a, b, carry, true); break;
+    case OP3_SUBX | OP3_CC: result = difference(m, a, b, carry, true); break;
+    case OP3_SLL: result = a << (b & 31); break;
+    case OP3_SRL: result = a >> (b & 31); break;
+    case OP3_SRA: result = shifted_signed(a, b & 31); break;
+    case OP3_JMPL: return JMPL;
+    case OP3_TICC: trap(m, word, a + b); return DONE;
+    default: return ILLEGAL;
+    }
+    put_register(m, rd(word), result);
+    return DONE;
+}
+
+/* ---- jmpl */
+
+/* Jmpl's address comes from the registers before its own is written; a misaligned one ends the run. */
+static inline bool jump(struct machine *m, uint32_t word, uint32_t source, uint32_t *target)
+{
+    uint32_t address = m->registers[rs1(word)] + operand(m, word);
+    if (address % 4 != 0) {
+        stop(m, END_MISALIGNED, address);
+        return false;
+    }
+    put_register(m, rd(word), source);
+    *target = address;
+    return true;
+}
+
+/* ---- memory */
+
+/* Where an access of a width lies in the data, or NULL after ending the run; alignment is tested before fit. */
+static inline uint8_t *reach(struct machine *m, const struct area *data, uint32_t address, uint32_t width)
+{
+    uint32_t offset = address - data->base;
+    if (address % width != 0) {
+        stop(m, END_MISALIGNED, address);
+        return NULL;
+    }
+    if ((uint64_t)offset + width > data->length) {
+        stop(m, END_UNFIT, address);
+        return NULL;
+    }
+    return data->bytes + offset;
+}
+
+static inline enum outcome memory(struct machine *m, uint32_t word, const struct area *data)
+{
+    uint32_t address = m->registers[rs1(word)] + operand(m, word);
+    uint32_t d = rd(word);
+    uint8_t *at;
+
+    switch (op3(word)) {
+    case OP3_LD: if ((at = reach(m, data, address, 4))) put_register(m, d, word_at(at)); break;
+    case OP3_LDUB: if ((at = reach(m, data, address, 1))) put_register(m, d, *at); break;
+    case OP3_LDUH: if ((at = reach(m, data, address, 2))) put_register(m, d, half_at(at)); break;
+    case OP3_LDSB: if ((at = reach(m, data, address, 1))) put_register(m, d, extended(*at, 0x80)); break;
+    case OP3_LDSH: if ((at = reach(m, data, address, 2))) put_register(m, d, extended(half_at(at), 0x8000)); break;
+    case OP3_ST: if ((at = reach(m, data, address, 4))) put_word(at, m->registers[d]); break;
+    case OP3_STB: if ((at = reach(m, data, address, 1))) *at = (uint8_t)m->registers[d]; break;
+    case OP3_STH: if ((at = reach(m, data, address, 2))) put_half(at, m->registers[d]); break;
+    default: return ILLEGAL;
+    }
+    return DONE;
+}
+
+#endif

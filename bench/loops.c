@@ -1,0 +1,145 @@
+/* The loops that the benchmarks run. */
+#include "loops.h"
+
+#include <stdbool.h>
+
+#include "numbers.h"
+#include "v8.h"
+
+/* ---- words, built from their fields */
+
+static uint32_t with_register(uint32_t format, uint32_t op3, uint32_t rd, uint32_t rs1, uint32_t rs2)
+{
+    return format << 30 | rd << 25 | op3 << 19 | rs1 << 14 | rs2;
+}
+
+static uint32_t with_constant(uint32_t format, uint32_t op3, uint32_t rd, uint32_t rs1, int constant)
+{
+    return with_register(format, op3, rd, rs1, 1u << 13 | ((uint32_t)constant & 0x1FFF));
+}
+
+static uint32_t compute(uint32_t op3, uint32_t rd, uint32_t rs1, uint32_t rs2)
+{
+    return with_register(FORMAT_ARITHMETIC, op3, rd, rs1, rs2);
+}
+
+static uint32_t compute_constant(uint32_t op3, uint32_t rd, uint32_t rs1, int constant)
+{
+    return with_constant(FORMAT_ARITHMETIC, op3, rd, rs1, constant);
+}
+
+static uint32_t access(uint32_t op3, uint32_t rd, uint32_t rs1, uint32_t rs2)
+{
+    return with_register(FORMAT_MEMORY, op3, rd, rs1, rs2);
+}
+
+static uint32_t access_constant(uint32_t op3, uint32_t rd, uint32_t rs1, int constant)
+{
+    return with_constant(FORMAT_MEMORY, op3, rd, rs1, constant);
+}
+
+static uint32_t branch(uint32_t condition, bool annul, int words)
+{
+    return (uint32_t)annul << 29 | condition << 25 | (uint32_t)OP2_BICC << 22 | ((uint32_t)words & 0x3FFFFF);
+}
+
+static uint32_t call(int words)
+{
+    return (uint32_t)FORMAT_CALL << 30 | ((uint32_t)words & 0x3FFFFFFF);
+}
+
+static uint32_t sethi(uint32_t rd, uint32_t value)
+{
+    return rd << 25 | (uint32_t)OP2_SETHI << 22 | value >> 10;
+}
+
+/* ---- the three loops; none of them ends */
+
+static struct loop loop_of(const char *name, const uint32_t *words, size_t count)
+{
+    struct loop loop = { .name = name, .length = 4 * count };
+    for (size_t i = 0; i < count; i++)
+        put_word(loop.image + 4 * i, words[i]);
+    return loop;
+}
+
+#define LOOP_OF(name, words) loop_of(name, words, sizeof words / sizeof words[0])
+
+static struct loop arithmetic_loop(void)
+{
+    const uint32_t words[] = {
+        compute_constant(OP3_ADD, 1, 1, 1),          /*  0 loop: add   r1, 1, r1 */
+        compute(OP3_ADD, 2, 2, 1),                   /*  1       add   r2, r1, r2 */
+        compute(OP3_XOR, 3, 3, 2),                   /*  2       xor   r3, r2, r3 */
+        compute_constant(OP3_SLL, 4, 3, 3),          /*  3       sll   r3, 3, r4 */
+        compute_constant(OP3_SRL, 5, 2, 5),          /*  4       srl   r2, 5, r5 */
+        compute(OP3_SUB, 6, 4, 5),                   /*  5       sub   r4, r5, r6 */
+        compute(OP3_ADD | OP3_CC, 7, 7, 6),          /*  6       addcc r7, r6, r7 */
+        compute_constant(OP3_ADDX, 8, 8, 0),         /*  7       addx  r8, 0, r8 */
+        compute_constant(OP3_SRA, 9, 7, 2),          /*  8       sra   r7, 2, r9 */
+        compute_constant(OP3_AND | OP3_CC, 0, 1, 7), /*  9       andcc r1, 7, r0 */
+        branch(COND_NE, false, -10),                 /* 10       bne   loop */
+        compute(OP3_XOR, 3, 3, 9),                   /* 11       xor   r3, r9, r3 */
+        compute(OP3_SUB | OP3_CC, 2, 2, 8),          /* 12       subcc r2, r8, r2 */
+        branch(COND_ALWAYS, false, -13),             /* 13       ba    loop */
+        compute(OP3_ORN, 10, 2, 10),                 /* 14       orn   r2, r10, r10 */
+    };
+    return LOOP_OF("arithmetic", words);
+}
+
+static struct loop memory_loop(void)
+{
+    const uint32_t words[] = {
+        sethi(16, DATA_BASE),                       /*  0       sethi r16 */
+        compute_constant(OP3_ADD, 1, 1, 4),         /*  1 loop: add   r1, 4, r1 */
+        compute_constant(OP3_AND, 1, 1, 0xFFC),     /*  2       and   r1, 0xffc, r1 */
+        access(OP3_LD, 2, 16, 1),                   /*  3       ld    [r16 + r1], r2 */
+        compute(OP3_ADD, 2, 2, 6),                  /*  4       add   r2, r6, r2 */
+        access(OP3_ST, 2, 16, 1),                   /*  5       st    r2, [r16 + r1] */
+        compute(OP3_ADD, 3, 16, 1),                 /*  6       add   r16, r1, r3 */
+        access_constant(OP3_LDUB, 4, 3, 1),         /*  7       ldub  [r3 + 1], r4 */
+        access_constant(OP3_STB, 4, 3, 3),          /*  8       stb   r4, [r3 + 3] */
+        access_constant(OP3_LDUH, 5, 3, 2),         /*  9       lduh  [r3 + 2], r5 */
+        compute(OP3_ADD, 5, 5, 1),                  /* 10       add   r5, r1, r5 */
+        access_constant(OP3_STH, 5, 3, 0),          /* 11       sth   r5, [r3] */
+        branch(COND_ALWAYS, false, -11),            /* 12       ba    loop */
+        compute(OP3_XOR, 6, 6, 5),                  /* 13       xor   r6, r5, r6 */
+    };
+    return LOOP_OF("memory", words);
+}
+
+static struct loop mixed_loop(void)
+{
+    const uint32_t words[] = {
+        sethi(16, DATA_BASE),                         /*  0       sethi r16 */
+        call(14),                                     /*  1 loop: call  leaf */
+        compute_constant(OP3_ADD, 8, 8, 1),           /*  2       add   r8, 1, r8 */
+        compute_constant(OP3_AND | OP3_CC, 0, 9, 3),  /*  3       andcc r9, 3, r0 */
+        branch(COND_E, true, 3),                      /*  4       be,a  at7 */
+        compute_constant(OP3_ADD, 10, 10, 1),         /*  5       add   r10, 1, r10 */
+        compute(OP3_XOR, 10, 10, 9),                  /*  6       xor   r10, r9, r10 */
+        access(OP3_LD, 12, 16, 11),                   /*  7 at7:  ld    [r16 + r11], r12 */
+        compute(OP3_ADD | OP3_CC, 12, 12, 9),         /*  8       addcc r12, r9, r12 */
+        branch(COND_NE, false, 3),                    /*  9       bne   at12 */
+        access(OP3_ST, 12, 16, 11),                   /* 10       st    r12, [r16 + r11] */
+        compute_constant(OP3_SUB, 9, 9, 1),           /* 11       sub   r9, 1, r9 */
+        access_constant(OP3_LDSB, 14, 16, 2),         /* 12 at12: ldsb  [r16 + 2], r14 */
+        branch(COND_ALWAYS, true, -12),               /* 13       ba,a  loop */
+        0,                                            /* 14       never run */
+        compute_constant(OP3_SLL, 13, 8, 2),          /* 15 leaf: sll   r8, 2, r13 */
+        compute_constant(OP3_AND, 11, 13, 0xFFC),     /* 16       and   r13, 0xffc, r11 */
+        compute_constant(OP3_SUB, 13, 13, 5),         /* 17       sub   r13, 5, r13 */
+        compute_constant(OP3_JMPL, 0, 15, 8),         /* 18       jmpl  r15 + 8, r0 */
+        compute(OP3_XOR, 9, 9, 13),                   /* 19       xor   r9, r13, r9 */
+    };
+    return LOOP_OF("mixed", words);
+}
+
+struct loop loop_at(int number)
+{
+    switch (number) {
+    case 0: return arithmetic_loop();
+    case 1: return memory_loop();
+    default: return mixed_loop();
+    }
+}
