@@ -1,4 +1,5 @@
-/* The loops that the benchmarks run. */
+/* The three loops that both benchmarks run: the old core the words, the new core their translations. After an edit,
+ * bench/translate makes the translations again. */
 #include "loops.h"
 
 #include <stdbool.h>
