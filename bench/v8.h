@@ -1,4 +1,4 @@
-/* Numbers of SPARC V8 words: the formats, and the op2, op3 and conditions that the rival and the loops name. */
+/* Numbers of SPARC V8 words: the formats, and the op2, op3 and conditions that the rivals and the loops name. */
 #ifndef V8_H
 #define V8_H
 
