@@ -108,12 +108,12 @@ four-bits word = le-leb (word / 2 ^ 25 % 2 ^ 4) 15 (omega arith)
 
 small-format : (k word : ℕ) → small (byFormat k word) ≡ true
 unfolding byFormat format0Of format2Of format3Of
-small-format zero word = found-passes small (rows0 word) Illegal (bits word 22 3) (rw (four-bits word)) refl
+small-format zero word = found-passes (λ k i. small i) (rows0 word) Illegal (bits word 22 3) (rw (four-bits word)) refl
 small-format (suc zero) word = refl
 small-format (suc (suc zero)) word =
-    found-passes (λ f. small (f (bits word 25 4) (bits word 25 5) (bits word 14 5) (operandOf word))) rows2 none2 (bits word 19 6) refl refl
+    found-passes (λ k f. small (f (bits word 25 4) (bits word 25 5) (bits word 14 5) (operandOf word))) rows2 none2 (bits word 19 6) refl refl
 small-format (suc (suc (suc n))) word =
-    found-passes (λ f. small (f (bits word 25 5) (bits word 14 5) (operandOf word))) rows3 none3 (bits word 19 6) refl refl
+    found-passes (λ k f. small (f (bits word 25 5) (bits word 14 5) (operandOf word))) rows3 none3 (bits word 19 6) refl refl
 
 small-word : (word : ℕ) → small (instructionOf word) ≡ true
 unfolding instructionOf

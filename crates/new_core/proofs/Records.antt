@@ -4,6 +4,7 @@ use Rattle.numbers.proofs.Lists.{at-up, past-up, drop-up, drop-all-up}
 use Rattle.numbers.specs.Number.{numberAt}
 use Rattle.words.specs.declared.Instruction.the-variants.{Illegal, Call, Sethi, Bicc, Arithmetic, Jmpl, Ticc, Load, Store}
 use Rattle.words.specs.declared.Instruction.{Instruction}
+use Rattle.words.specs.Reader.{instructionOf, asJmpl}
 use Rattle.machine.specs.Ends.{ending, halt}
 use Rattle.machine.specs.Effect.{Machine}
 use Rattle.model.specs.Records.{rowAt, rowsIn, recordAt, recordsIn, recordOf, Rec, doWord, link, hold, goIf, goTo, goHeld, stop, unknown}
@@ -54,6 +55,23 @@ not-held (Arithmetic o cc rd rs1 x) p m r k = refl
 not-held (Ticc cond rs1 x) p m r k = either (λ (t : Transfer). holds t p m r ≡ halt (ending 7 r)) (eqb cond 8) trap straight refl refl
 not-held (Load w sign rd rs1 x) p m r k = refl
 not-held (Store w rd rs1 x) p m r k = refl
+
+-- a word read for a jmpl alone is held as the word itself
+pub held-alone : (word : ℕ) (i : Instruction) (p : ℕ) (m : Machine) (r : ℕ) → i ≡ asJmpl (instructionOf word)
+    → holds (transferOf (instructionOf word)) p m r ≡ holds (transferOf i) p m r
+unfolding holds transferOf asJmpl
+held-alone word i p m r e = rw e (alone (instructionOf word))
+  where
+    alone : (i : Instruction) → holds (transferOf i) p m r ≡ holds (transferOf (asJmpl i)) p m r
+    alone Illegal = refl
+    alone (Call disp) = refl
+    alone (Sethi rd imm) = refl
+    alone (Bicc cond annul disp) = refl
+    alone (Arithmetic o cc rd rs1 x) = refl
+    alone (Jmpl rd rs1 x) = refl
+    alone (Ticc cond rs1 x) = either (λ (t : Transfer). holds t p m r ≡ halt (ending 7 r)) (eqb cond 8) trap straight refl refl
+    alone (Load w sign rd rs1 x) = refl
+    alone (Store w rd rs1 x) = refl
 
 each : (w : Which) → idleBicc w true ≡ false
 unfolding idleBicc

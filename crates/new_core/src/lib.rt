@@ -252,7 +252,7 @@ fn obey(
         1 => do_word(words::read_instruction(first), db, regs, c, area),
         2 => link(first, regs, c),
         3 => hold(
-            words::read_instruction(first),
+            words::read_jmpl(first),
             numbers::read_number(records, at + 8),
             regs,
             c,

@@ -4,7 +4,7 @@ use mathlib.Core.Path.{_≡_, refl, sym, ap}
 use mathlib.Core.Bool.{Bool, true, false, false≢true}
 use mathlib.Core.List.{List, [], _∷_}
 use lib.Dec.{eqb}
-use borrow.Author.Tests.{ne-eqb}
+use borrow.Author.Tests.{ne-eqb, eqb-true}
 use Rattle.numbers.specs.Choice.{pick, find}
 
 -- which of two a test picks
@@ -44,17 +44,22 @@ missed U (row ∷ rows) d k m =
 pub find-none : {A : Type 0} (rows : List (ℕ × A)) (d : A) (k : ℕ) → Misses (Unit {0}) rows k → find rows d k ≡ d
 find-none rows d k m = missed (Unit {0}) rows d k m .1
 
--- a test that passes for every row's value and for the other value passes for what is found
-abbrev pub every : {A : Type 0} → (A → Bool) → List (ℕ × A) → Bool
+-- a test that passes for every row's key and value, and for the other value, passes for the key and what is found
+abbrev pub every : {A : Type 0} → (ℕ → A → Bool) → List (ℕ × A) → Bool
 every test [] = true
-every test (row ∷ rows) = pick (test (row .1)) (every test rows) false
+every test (row ∷ rows) = pick (test (row .0) (row .1)) (every test rows) false
 
-pub found-passes : {A : Type 0} (test : A → Bool) (rows : List (ℕ × A)) (d : A) (k : ℕ) → every test rows ≡ true → test d ≡ true → test (find rows d k) ≡ true
+pub found-passes : {A : Type 0} (test : ℕ → A → Bool) (rows : List (ℕ × A)) (d : A) (k : ℕ) → every test rows ≡ true → test k d ≡ true
+    → test k (find rows d k) ≡ true
 found-passes test [] d k h p = p
 found-passes test (row ∷ rows) d k h p =
-    let t = split (test (row .1)) (every test rows) h in
-    either (λ a. test a ≡ true) (eqb k (row .0)) (row .1) (find rows d k) (t .0) (found-passes test rows d k (t .1) p)
+    let t = split (test (row .0) (row .1)) (every test rows) h in
+    go (eqb k (row .0)) refl (t .0) (found-passes test rows d k (t .1) p)
   where
     split : (a b : Bool) → pick a b false ≡ true → (a ≡ true) × (b ≡ true)
     split true b e = (refl, e)
     split false b e = absurd (false≢true e)
+
+    go : (b : Bool) → eqb k (row .0) ≡ b → test (row .0) (row .1) ≡ true → test k (find rows d k) ≡ true → test k (pick b (row .1) (find rows d k)) ≡ true
+    go true e here rest = rw (eqb-true k (row .0) e) here
+    go false e here rest = rest

@@ -102,3 +102,15 @@ byFormat (suc (suc (suc n))) word = format3Of (bits word 19 6) (bits word 25 5) 
 -- "All others are illegal. Unused bits are ignored."
 unfoldable pub instructionOf : ℕ → Instruction
 instructionOf word = byFormat (bits word 30 2) word
+
+-- an instruction where a jmpl is called for: any other is as good as illegal
+unfoldable pub asJmpl : Instruction → Instruction
+asJmpl Illegal = Illegal
+asJmpl (Call disp) = Illegal
+asJmpl (Sethi rd imm) = Illegal
+asJmpl (Bicc cond annul disp) = Illegal
+asJmpl (Arithmetic o cc rd rs1 x) = Illegal
+asJmpl (Jmpl rd rs1 x) = Jmpl rd rs1 x
+asJmpl (Ticc cond rs1 x) = Illegal
+asJmpl (Load w sign rd rs1 x) = Illegal
+asJmpl (Store w rd rs1 x) = Illegal

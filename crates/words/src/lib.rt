@@ -2,7 +2,7 @@
 ghost use mathlib.Core.Path.{_≡_};
 ghost use Prim.Native.Nat.{_<_};
 ghost use Rattle.numbers.specs.Number.{signed};
-ghost use Rattle.words.specs.Reader.{bits, bitSet, operandOf, format0Of, format2Of, format3Of, instructionOf};
+ghost use Rattle.words.specs.Reader.{bits, bitSet, operandOf, format0Of, format2Of, format3Of, instructionOf, asJmpl};
 ghost use Rattle.words.specs.Conditions.{bitAt, holdsOf};
 
 // The second operand: a register, or a signed 13-bit constant, extended to 32 bits.
@@ -230,6 +230,18 @@ pub fn read_instruction(word: u32) -> Instruction
         return format2(op3(word), cond(word), rd(word), rs1(word), x);
     }
     format3(op3(word), rd(word), rs1(word), x)
+}
+
+// The same, for a jmpl alone. Where only a jmpl will do, this is quicker, and the whole reader keeps its one caller.
+pub fn read_jmpl(word: u32) -> Instruction
+    ensures { λ r. ⌜ r ≡ asJmpl (instructionOf word) ⌝ }
+{
+    if op(word) == 2 {
+        if op3(word) == 56 {
+            return Instruction::Jmpl(rd(word), rs1(word), second_operand(word));
+        }
+    }
+    Instruction::Illegal
 }
 
 // ---- conditions

@@ -1,7 +1,7 @@
 use Rattle.machine.specs.Ends.{settle}
 use Rattle.model.specs.Records.{recordOf, link, hold}
 use Rattle.model.specs.NewCore.{doesWord, does}
-use Rattle.new_core.proofs.Records.{read-as, no-kind}
+use Rattle.new_core.proofs.Records.{read-as, no-kind, held-alone}
 use borrow.Author.Needs.{needs}
 use Rattle.new_core.proofs.obey.Statement.{statement}
 use Rattle.new_core.proofs.obey.Tie as tie
@@ -24,8 +24,8 @@ do-word-requires c κs = search needs
 link-requires : tie.Need-link-requires
 link-requires c κs = search needs
 
-read-instruction-requires-2 : tie.Need-read-instruction-requires-2
-read-instruction-requires-2 c κs = search needs
+read-jmpl-requires : tie.Need-read-jmpl-requires
+read-jmpl-requires c κs = search needs
 
 add-read-number-2 : tie.Need-add-read-number-2
 add-read-number-2 c = search needs
@@ -76,7 +76,7 @@ returns-2 c = rw (read-as (c .before .before .before .before .before .before .be
 
 returns-3 : tie.Need-returns-3
 unfolding does recordOf
-returns-3 c = rw (read-as (c .before .before .before .before .before .before .before .before .before .before .before .args .records .now) (c .before .before .before .before .before .before .before .before .before .before .before .args .at) (c .before .before .before .before .before .before .before .before .before .before .before .args .c .at .0) _ _ (c .before .before .before .before .before .before .before .before .before .before .before .pre .0) (c .before .before .before .before .before .before .read-number .ensures) (c .before .before .before .before .before .read-number2 .ensures), c .before .before .before .before .match .keys3, ← c .before .before .before .read-instruction2 .ensures, ← c .before .before .read-number3 .ensures) (c .hold .ensures _)
+returns-3 c = rw (read-as (c .before .before .before .before .before .before .before .before .before .before .before .args .records .now) (c .before .before .before .before .before .before .before .before .before .before .before .args .at) (c .before .before .before .before .before .before .before .before .before .before .before .args .c .at .0) _ _ (c .before .before .before .before .before .before .before .before .before .before .before .pre .0) (c .before .before .before .before .before .before .read-number .ensures) (c .before .before .before .before .before .read-number2 .ensures), c .before .before .before .before .match .keys3, held-alone _ _ _ _ _ (c .before .before .before .read-jmpl .ensures), ← c .before .before .read-number3 .ensures) (c .hold .ensures _)
 
 returns-4 : tie.Need-returns-4
 unfolding does recordOf
@@ -108,7 +108,7 @@ obey-spec =
     read-instruction-requires
     do-word-requires
     link-requires
-    read-instruction-requires-2
+    read-jmpl-requires
     add-read-number-2
     read-number-requires-3
     hold-requires
