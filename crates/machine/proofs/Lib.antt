@@ -3,3 +3,4 @@ pub mod Overflow
 pub mod Loads
 pub mod Effects
 pub mod Zero
+pub mod Bounds

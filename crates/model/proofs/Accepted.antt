@@ -1,17 +1,18 @@
 -- What acceptance says: the walk made the places, no entry is bad, and the buffers begin with the bytes of table and records.
-use Prim.Native.Nat.{ℕ, zero, suc, _+_, _*_, _-_, _/_, _%_, _^_, _<_}
+use Prim.Native.Nat.{ℕ, suc, _*_, _-_, _/_, _%_, _^_, _<_}
 use native.Mathlib.Omega.{arith}
 use mathlib.Core.Path.{_≡_, refl, sym, ap, _∙_, subst}
 use mathlib.Core.Bool.{Bool, true, false, _&&_, not, false≢true}
 use mathlib.Core.List.{List, [], _∷_}
 use mathlib.Core.Option.{none, some}
 use lib.Dec.{eqb, leb}
-use lib.ListN.{length, getD, take, replicate}
+use lib.ListN.{length, take, replicate}
 use lib.Seq.{take-at}
 use borrow.Author.Tests.{eqb-true}
 use Rattle.numbers.specs.Choice.{pick}
-use Rattle.numbers.specs.Number.{minus, plus, numberAt, numbersOf, bytesOf}
-use Rattle.numbers.proofs.Number.{AllLt, all-lt-up, length-bytes}
+use Rattle.numbers.specs.Number.{Below, minus, plus, numberAt, numbersOf, bytesOf}
+use Rattle.numbers.proofs.Number.{length-bytes}
+use Rattle.numbers.proofs.Bounds.{below-up, number-lt}
 use Rattle.model.specs.declared.Place.{Place}
 use Rattle.model.specs.declared.Answer.{Answer}
 use Rattle.model.specs.declared.Answer.the-variants.{Accepted, ImageLength, Base, Entry, Forbidden, NoRoom, RecordsShort}
@@ -20,22 +21,12 @@ use Rattle.model.specs.Places.{plain, plains}
 use Rattle.model.specs.Walk.{Walked, table, refused, endless, placesOf}
 use Rattle.model.specs.Records.{group, past, rowsFrom, rowsOf, recordsOf, tableNumbers, recordsNumbers, numbersIn}
 use Rattle.model.specs.Translation.{Handed, badLength, badCount, badEntry, anyBad, placeRoom, filled, refusal, acceptance, fromWalk, translation}
-use Rattle.model.specs.Demand3.{AllBytes}
 use Rattle.model.proofs.Members.{AllP}
 use Rattle.model.proofs.OldSide.{Aligned}
 use Rattle.model.proofs.Packed.{length-table, length-records}
 
 -- ---------------------------------------------------------------- numbers of bytes have 32 bits
-byte-at : (bs : List ℕ) (i : ℕ) → AllBytes bs → getD bs i 0 < 256
-byte-at [] i a = omega arith
-byte-at (b ∷ bs) zero a = a .0
-byte-at (b ∷ bs) (suc i) a = byte-at bs i (a .1)
-
-number-lt : (bs : List ℕ) (at : ℕ) → AllBytes bs → numberAt bs at < 2 ^ 32
-unfolding numberAt
-number-lt bs at a = omega (arith, byte-at bs at a, byte-at bs (at + 1) a, byte-at bs (at + 2) a, byte-at bs (at + 3) a)
-
-pub words-lt : (image : List ℕ) (base : ℕ) → AllBytes image → (p w : ℕ) → wordIn image base p ≡ some w → w < 2 ^ 32
+pub words-lt : (image : List ℕ) (base : ℕ) → Below 256 image → (p w : ℕ) → wordIn image base p ≡ some w → w < 2 ^ 32
 unfolding wordIn
 words-lt image base ib p w e = go (inImage base (length image) p) e
   where
@@ -45,9 +36,9 @@ words-lt image base ib p w e = go (inImage base (length image) p) e
         subst (λ (x : ℕ). x < 2 ^ 32) z (number-lt image (minus p base) ib)
     go false q = let z : _≡_ {A = ℕ} 0 1 = cc in absurd (omega arith)
 
-pub numbers-lt : (bs : List ℕ) → AllBytes bs → AllLt (numbersIn bs)
+pub numbers-lt : (bs : List ℕ) → Below 256 bs → Below (2 ^ 32) (numbersIn bs)
 unfolding numbersIn numbersOf
-numbers-lt bs a = all-lt-up (λ i. numberAt bs (4 * i)) (length bs / 4) (λ i. number-lt bs (4 * i) a)
+numbers-lt bs a = below-up (2 ^ 32) (λ i. numberAt bs (4 * i)) (length bs / 4) (λ i. number-lt bs (4 * i) a)
 
 -- ---------------------------------------------------------------- good entries are aligned
 good-aligned : (base size e : ℕ) → e < 2 ^ 32 → badEntry base size e ≡ false → Aligned (plain e)
@@ -58,7 +49,7 @@ good-aligned base size e l h = let z : e % 4 ≡ 0 = eqb-true (e % 4) 0 (go (eqb
     go true q = refl
     go false q = absurd (false≢true (sym q))
 
-pub entries-aligned : (base size : ℕ) (es : List ℕ) → AllLt es → anyBad base size es ≡ false → AllP Aligned (plains es)
+pub entries-aligned : (base size : ℕ) (es : List ℕ) → Below (2 ^ 32) es → anyBad base size es ≡ false → AllP Aligned (plains es)
 unfolding anyBad plains
 entries-aligned base size [] l h = tt
 entries-aligned base size (e ∷ es) l h = go (badEntry base size e) refl h (λ i. entries-aligned base size es (l .1) i)

@@ -1,7 +1,6 @@
 -- Demand 3.
-use Prim.Native.Nat.{ℕ, zero, suc, _+_, _*_, _≤_, _<_}
+use Prim.Native.Nat.{ℕ, suc, _+_, _*_, _≤_, _<_}
 use native.Mathlib.Nat.{zero-add}
-use native.Mathlib.Numerals.{add-one}
 use native.Mathlib.Omega.{arith}
 use mathlib.Core.Path.{_≡_, refl, sym, ap, _∙_}
 use mathlib.Core.Logic.{_↔_}
@@ -9,9 +8,9 @@ use mathlib.Core.Bool.{Bool, true, false}
 use mathlib.Core.List.{List, _∷_}
 use mathlib.Core.Option.{none, some}
 use lib.ListN.{length, getD, take}
-use lib.Seq.{take-take}
-use Rattle.numbers.specs.Number.{plus, upTo}
-use Rattle.numbers.proofs.Lists.{length-up, get-up, up-list}
+use Rattle.numbers.specs.Number.{Below, plus, upTo, bytesOf}
+use Rattle.numbers.proofs.Bounds.{below-bytes}
+use Rattle.numbers.proofs.Lists.{length-up}
 use Rattle.machine.specs.Ends.{Ending, ending, halt, State, state, live, settle}
 use Rattle.machine.specs.Effect.{Machine, machine}
 use Rattle.model.specs.declared.Place.{Place}
@@ -20,12 +19,13 @@ use Rattle.model.specs.Run.{step, run}
 use Rattle.model.specs.OldCore.{old, inImage, oldBegun}
 use Rattle.model.specs.Places.{plain, member, Makes}
 use Rattle.model.specs.Walk.{table, placesOf}
-use Rattle.model.specs.Records.{first, rowsOf, recordsOf, rowsIn, recordsIn, numbersIn}
+use Rattle.model.specs.Records.{first, rowsOf, recordsOf, rowsIn, recordsIn, numbersIn, tableNumbers, recordsNumbers}
 use Rattle.model.specs.NewCore.{New, new, seek, begunAt, newBegun}
 use Rattle.model.specs.Translation.{Handed, translation, placeRoom}
 use Rattle.model.specs.Trails.{Core, Trail, at, trail, entry, closing, opening, Unspent, stood}
 use Rattle.model.specs.Cores.{shownOf, Start, startMachine, oldOver, newOver, oldBegin, newBegin, stepsFor, trailOf}
-use Rattle.model.specs.Demand3.{AllBytes, Begins, Complete, Strays, Claim, Holds, Demand3}
+use Rattle.model.specs.Demand3.{Placed, Begins, Complete, GoesBy, Strays, Claim, Holds, Demand3}
+use Rattle.model.proofs.Shown.{shown-again, get-other}
 use Rattle.model.proofs.Hop.{Over}
 use Rattle.model.proofs.Trails.{steady-on, Cut, cuts, run-suc, traced-so, Ended, ends-so, closes-so}
 use Rattle.model.proofs.OldSide.{old-over}
@@ -39,20 +39,6 @@ use Rattle.model.proofs.Packed.{table-back, records-back}
 use Rattle.model.proofs.Accepted.{words-lt, numbers-lt, entries-aligned, Took, took}
 
 -- ---------------------------------------------------------------- the first entry is the start
-shown-again : (m : Machine) → shownOf (shownOf m) ≡ shownOf m
-unfolding shownOf
-shown-again m =
-    let l : List ℕ = upTo (λ i. getD (m .registers) (i + 1) 0) 31 in
-    let k : length l ≡ 31 = length-up (λ i. getD (m .registers) (i + 1) 0) 31 in
-    let same : upTo (λ i. getD (0 ∷ l) (i + 1) 0) (length l) ≡ l = up-list 0 (λ i. getD (0 ∷ l) (i + 1) 0) l (λ i h. rw (add-one i)) in
-    let back : upTo (λ i. getD (0 ∷ l) (i + 1) 0) 31 ≡ l = rw k at same in
-    rw (back, take-take 65536 65536 (m .area) (omega arith))
-
--- registers 1 to 31 are shown as they are
-get-other : (rs : List ℕ) (i : ℕ) → 1 ≤ i → i < 32 → getD (0 ∷ upTo (λ j. getD rs (j + 1) 0) 31) i 0 ≡ getD rs i 0
-get-other rs zero l h = absurd (omega arith)
-get-other rs (suc j) l h = get-up (λ i. getD rs (i + 1) 0) 31 j 0 (omega arith) ∙ ap (λ (z : ℕ). getD rs z 0) (add-one j)
-
 begins : (x : Start) (t rest : Trail) → t ≡ at 0 (x .address) (shownOf (startMachine x)) rest → Begins x t
 unfolding shownOf
 begins x t rest e =
@@ -75,7 +61,7 @@ halts-so : {S : Type 0} (c : Core S) (n v steps : ℕ) (x : State S) (last : S) 
 unfolding step settle
 halts-so c n v steps x last g h = run-suc c steps x ∙ rw (g, h)
 
-complete : {S : Type 0} (c : Core S) → ((s : S) → Over c (c .next s)) → (k : ℕ) (s : S) → Unspent (trailOf c k (live s)) → Complete c k (live s)
+pub complete : {S : Type 0} (c : Core S) → ((s : S) → Over c (c .next s)) → (k : ℕ) (s : S) → Unspent (trailOf c k (live s)) → Complete c k (live s)
 unfolding run
 complete c over k s u =
     let q : trail c (stepsFor (suc k)) k 0 (live s) ≡ trailOf c k (live s) = steady-on c (stepsFor k) (stepsFor (suc k)) k 0 (live s) (omega arith) u in
@@ -125,7 +111,7 @@ module _ (image : List ℕ) (base db : ℕ) (es : List ℕ) (cap : ℕ) (ps : Li
     beside = oldTrail image base db (stepsFor k) k (y .address) (startMachine y)
 
     abbrev strays : ℕ → Type 0
-    strays h = Strays placed (inImage base (length image)) (recordsIn records) N k (live begun) h
+    strays h = Strays (GoesBy (recordsIn records)) placed (inImage base (length image)) N k (live begun) h
 
     alike : Same 0 beside u
     alike =
@@ -165,10 +151,9 @@ module _ (image : List ℕ) (base db : ℕ) (es : List ℕ) (cap : ℕ) (ps : Li
         let f : Fell records places base (length image) db r g h = six-fell records places base (length image) db m r g h ends in
         record {
           steps = steps;
-          machine = m;
-          record-number = r;
-          going = rw (f .held-at) go;
-          kind-6 = f .kind-6;
+          there = new m r g;
+          going = go;
+          by-held = (f .kind-6, sym (f .held-at));
           in-image = rw (f .held-at) (f .in-image);
           no-place = λ p. missed g (f .missed) (rw (f .held-at) at p);
           room = room (six-fell-true records places base (length image) db m r g (f .kind-6));
@@ -186,9 +171,14 @@ module _ (image : List ℕ) (base db : ℕ) (es : List ℕ) (cap : ℕ) (ps : Li
     six-back : (h : ℕ) → strays h → closing u ≡ ending 6 h
     six-back h s =
         sym (ap closing (steady-on N (stepsFor k) (stepsFor k + suc (s .steps)) k 0 (live begun) (omega arith) u-unspent))
-        ∙ closes-so N (new-over records places base (length image) db) (shownOf (s .machine)) (ending 6 h) (new (s .machine) (s .record-number) h)
-        (six-lands records places base (length image) db (s .machine) (s .record-number) h (s .kind-6) (not-found h (s .no-place)) (s .in-image))
-        (s .steps) (stepsFor k + suc (s .steps)) k 0 begun (omega arith) (s .going) (s .room)
+        ∙ go (s .there) (s .going) (s .by-held)
+      where
+        go : (v : New) → run (N .next) (s .steps) (live begun) ≡ live v → GoesBy (recordsIn records) v h
+            → closing (trail N (stepsFor k + suc (s .steps)) k 0 (live begun)) ≡ ending 6 h
+        go (new m r g) e b =
+            closes-so N (new-over records places base (length image) db) (shownOf m) (ending 6 h) (new m r g)
+            (rw (b .1) (six-lands records places base (length image) db m r h (b .0) (not-found h (s .no-place)) (s .in-image))) (s .steps)
+            (stepsFor k + suc (s .steps)) k 0 begun (omega arith) e (s .room)
 
     claim : Claim strays t u
     claim =
@@ -207,7 +197,7 @@ module _ (image : List ℕ) (base db : ℕ) (es : List ℕ) (cap : ℕ) (ps : Li
           old-pace = gaps-old image base db (stepsFor k) k (x .address) (startMachine x) (omega arith) lk;
         }
 
-    from-live : Holds placed (inImage base (length image)) (recordsIn records) k x y (oldOver image base db)
+    from-live : Holds (GoesBy (recordsIn records)) placed (inImage base (length image)) k x y (oldOver image base db)
         (live (old (startMachine x) (x .address) (plus (x .address) 4) false)) N (live begun)
     from-live =
         record {
@@ -222,15 +212,30 @@ module _ (image : List ℕ) (base db : ℕ) (es : List ℕ) (cap : ℕ) (ps : Li
     unfolding newBegun begunAt rowsOf
     new-begun = rw (er, sought image base ps 0 (y .address) (in-list (y .address) hy), zero-add)
 
-    pub from-begin : Holds placed (inImage base (length image)) (recordsIn records) k x y (oldOver image base db) (oldBegin x) N
+    pub from-begin : Holds (GoesBy (recordsIn records)) placed (inImage base (length image)) k x y (oldOver image base db) (oldBegin x) N
         (newBegin places base (length image) y)
     unfolding oldBegun
     from-begin = rw new-begun from-live
 
 -- ------------------------------------------------------------------ of the bytes that the translator left
-pub demand3 : Demand3
-unfolding Demand3 placeRoom
-demand3 image base entryList placesLength recordsLength position placeCount recordCount ib eb handed eh answered x y hx hy db k lk places records et er =
+-- an accepted call: the places that the walk found, and bytes that hold their table and records
+pub record Laid (image : List ℕ) (base : ℕ) (entryList : List ℕ) (cap : ℕ) (places records : List ℕ) : Type 0 where
+  pub ps : List Place
+  pub made : placesOf image base cap (numbersIn entryList) ≡ table ps
+  pub closed : Closed image base ps
+  pub few : length ps ≤ 8192
+  pub table-read : rowsIn places ≡ rowsOf image base ps
+  pub records-read : recordsIn records ≡ recordsOf image base ps
+  pub places-bytes : Below 256 places
+  pub records-bytes : Below 256 records
+
+pub laid : (image : List ℕ) (base : ℕ) (entryList : List ℕ) (placesLength recordsLength position placeCount recordCount : ℕ)
+    → Below 256 image → Below 256 entryList → (handed : Handed) → handed ≡ translation image base entryList placesLength recordsLength position
+    → handed .answer ≡ Accepted placeCount recordCount
+    → (places records : List ℕ) → places ≡ take (16 * placeCount) (handed .places) → records ≡ take (12 * recordCount) (handed .records)
+    → Laid image base entryList (placeRoom placesLength) places records
+unfolding placeRoom
+laid image base entryList placesLength recordsLength position placeCount recordCount ib eb handed eh answered places records et er =
     let es = numbersIn entryList in
     let tk : Took image base entryList placesLength recordsLength position placeCount recordCount
     (translation image base entryList placesLength recordsLength position) =
@@ -238,15 +243,36 @@ demand3 image base entryList placesLength recordsLength position placeCount reco
     let C : Closed image base (tk .ps) =
     places-closed image base (placeRoom placesLength) es (tk .ps) (entries-aligned base (length image) es (numbers-lt entryList eb) (tk .good)) (tk .made) in
     let few : length (tk .ps) ≤ 8192 = omega (arith, places-fit image base (placeRoom placesLength) es (tk .ps) (tk .made)) in
-    from-begin image base db es (placeRoom placesLength) (tk .ps) records places (tk .made) C few
-    (ap rowsIn (et ∙ ap (λ (z : Handed). take (16 * placeCount) (z .places)) eh ∙ tk .table-bytes)
-    ∙ table-back image base (words-lt image base ib) (tk .ps) (C .aligned) few)
-    (ap recordsIn (er ∙ ap (λ (z : Handed). take (12 * recordCount) (z .records)) eh ∙ tk .record-bytes)
-    ∙ records-back image base (words-lt image base ib) (tk .ps) (C .aligned) few)
-    k lk x y hy
+    let p : places ≡ bytesOf (tableNumbers (rowsOf image base (tk .ps))) = et ∙ ap (λ (z : Handed). take (16 * placeCount) (z .places)) eh ∙ tk .table-bytes in
+    let r : records ≡ bytesOf (recordsNumbers (recordsOf image base (tk .ps))) =
+    er ∙ ap (λ (z : Handed). take (12 * recordCount) (z .records)) eh ∙ tk .record-bytes in
+    record {
+      ps = tk .ps;
+      made = tk .made;
+      closed = C;
+      few = few;
+      table-read = ap rowsIn p ∙ table-back image base (words-lt image base ib) (tk .ps) (C .aligned) few;
+      records-read = ap recordsIn r ∙ records-back image base (words-lt image base ib) (tk .ps) (C .aligned) few;
+      places-bytes = rw p (below-bytes (tableNumbers (rowsOf image base (tk .ps))));
+      records-bytes = rw r (below-bytes (recordsNumbers (recordsOf image base (tk .ps))));
+    }
+
+-- an address with a plain place is found in the table
+pub finds : (image : List ℕ) (base : ℕ) (entryList : List ℕ) (cap : ℕ) (places records : List ℕ) (L : Laid image base entryList cap places records) (a : ℕ)
+    → Placed image base entryList a → seek (rowsIn places) a ≡ some (0 + first image base (L .ps) (plain a))
+unfolding rowsOf
+finds image base entryList cap places records L a h =
+    rw (L .table-read) (sought image base (L .ps) 0 a (made-member image base cap (numbersIn entryList) (L .ps) (L .made) (L .closed) (plain a) h))
+
+pub demand3 : Demand3
+unfolding Demand3
+demand3 image base entryList placesLength recordsLength position placeCount recordCount ib eb handed eh answered x y hx hy db k lk places records et er =
+    let L = laid image base entryList placesLength recordsLength position placeCount recordCount ib eb handed eh answered places records et er in
+    from-begin image base db (numbersIn entryList) (placeRoom placesLength) (L .ps) records places (L .made) (L .closed) (L .few) (L .table-read)
+    (L .records-read) k lk x y hy
 
 -- demand 2: "The places .. of an accepted image are those that 01's rules make, and all of them."
-pub all-of-them : (image : List ℕ) (base : ℕ) (entryList : List ℕ) (placesLength recordsLength position placeCount recordCount : ℕ) → AllBytes entryList
+pub all-of-them : (image : List ℕ) (base : ℕ) (entryList : List ℕ) (placesLength recordsLength position placeCount recordCount : ℕ) → Below 256 entryList
     → translation image base entryList placesLength recordsLength position .answer ≡ Accepted placeCount recordCount
     → (ps : List Place) × ((placesOf image base (placeRoom placesLength) (numbersIn entryList) ≡ table ps)
     × ((x : Place) → (member ps x ≡ true) ↔ Makes image base (numbersIn entryList) x))

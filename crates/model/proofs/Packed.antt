@@ -9,8 +9,8 @@ use lib.Dec.{eqb, leb}
 use lib.ListN.{length, getD}
 use borrow.Author.Tests.{leb-true}
 use Rattle.numbers.proofs.Choice.{either}
-use Rattle.numbers.specs.Number.{plus, bytesOf}
-use Rattle.numbers.proofs.Number.{AllLt, length-bytes, number-packed}
+use Rattle.numbers.specs.Number.{Below, plus, bytesOf}
+use Rattle.numbers.proofs.Number.{length-bytes, number-packed}
 use Rattle.numbers.proofs.Lists.{up-list}
 use Rattle.words.specs.Reader.{instructionOf}
 use Rattle.model.specs.declared.Place.{Place}
@@ -46,7 +46,7 @@ row-from (row p n k f ∷ rs) (suc i) h =
     let d : 4 * suc i + 3 ≡ suc (suc (suc (suc (4 * i + 3)))) = omega arith in
     rw (b, c, d, a) (row-from rs i (omega arith))
 
-row-packed : (rs : List Row) (i : ℕ) → AllLt (tableNumbers rs) → i < length rs → rowAt (bytesOf (tableNumbers rs)) i ≡ getD rs i noRow
+row-packed : (rs : List Row) (i : ℕ) → Below (2 ^ 32) (tableNumbers rs) → i < length rs → rowAt (bytesOf (tableNumbers rs)) i ≡ getD rs i noRow
 unfolding rowAt
 row-packed rs i a h =
     let ns = tableNumbers rs in
@@ -59,7 +59,7 @@ row-packed rs i a h =
     )
     (row-from rs i h)
 
-pub rows-packed : (rs : List Row) → AllLt (tableNumbers rs) → rowsIn (bytesOf (tableNumbers rs)) ≡ rs
+pub rows-packed : (rs : List Row) → Below (2 ^ 32) (tableNumbers rs) → rowsIn (bytesOf (tableNumbers rs)) ≡ rs
 unfolding rowsIn
 rows-packed rs a =
     let k : length (bytesOf (tableNumbers rs)) / 16 ≡ length rs = omega (arith, length-bytes (tableNumbers rs), length-table rs) in
@@ -119,7 +119,7 @@ record-from (r ∷ rs) (suc i) h =
     let rest = recordsNumbers rs in
     rw (b, c, a, three-past r rest (3 * i), three-past r rest (3 * i + 1), three-past r rest (3 * i + 2)) (record-from rs i (omega arith))
 
-record-packed : (rs : List (Rec ℕ)) (i : ℕ) → AllLt (recordsNumbers rs) → i < length rs → recordAt (bytesOf (recordsNumbers rs)) i ≡ getD rs i unknown
+record-packed : (rs : List (Rec ℕ)) (i : ℕ) → Below (2 ^ 32) (recordsNumbers rs) → i < length rs → recordAt (bytesOf (recordsNumbers rs)) i ≡ getD rs i unknown
 unfolding recordAt
 record-packed rs i a h =
     let ns = recordsNumbers rs in
@@ -131,7 +131,7 @@ record-packed rs i a h =
     )
     (record-from rs i h)
 
-pub records-packed : (rs : List (Rec ℕ)) → AllLt (recordsNumbers rs) → recordsIn (bytesOf (recordsNumbers rs)) ≡ rs
+pub records-packed : (rs : List (Rec ℕ)) → Below (2 ^ 32) (recordsNumbers rs) → recordsIn (bytesOf (recordsNumbers rs)) ≡ rs
 unfolding recordsIn
 records-packed rs a =
     let k : length (bytesOf (recordsNumbers rs)) / 12 ≡ length rs = omega (arith, length-bytes (recordsNumbers rs), length-records rs) in
@@ -149,7 +149,7 @@ RecLt goHeld = Unit {0}
 RecLt (stop e p) = (e < 2 ^ 32) × (p < 2 ^ 32)
 RecLt unknown = Unit {0}
 
-record-lt : (r : Rec ℕ) (rest : List ℕ) → RecLt r → AllLt rest → AllLt (recordNumbers r rest)
+record-lt : (r : Rec ℕ) (rest : List ℕ) → RecLt r → Below (2 ^ 32) rest → Below (2 ^ 32) (recordNumbers r rest)
 unfolding recordNumbers
 record-lt (doWord w) rest h l = (omega arith, (h, (omega arith, l)))
 record-lt (link p) rest h l = (omega arith, (h, (omega arith, l)))
@@ -171,7 +171,7 @@ at-lt (Pair p n) a = omega arith
 at-lt (Held p) a = omega arith
 
 module _ (image : List ℕ) (base : ℕ) (words : (p w : ℕ) → wordIn image base p ≡ some w → w < 2 ^ 32) where
-  rows-lt : (f : ℕ) (ps : List Place) → AllP Aligned ps → f + 2 * length ps < 2 ^ 32 → AllLt (tableNumbers (rowsFrom image base f ps))
+  rows-lt : (f : ℕ) (ps : List Place) → AllP Aligned ps → f + 2 * length ps < 2 ^ 32 → Below (2 ^ 32) (tableNumbers (rowsFrom image base f ps))
   unfolding tableNumbers rowsFrom
   rows-lt f [] a h = tt
   rows-lt f (y ∷ ys) a h =
@@ -225,13 +225,13 @@ module _ (image : List ℕ) (base : ℕ) (words : (p w : ℕ) → wordIn image b
     group-lt (Pair p n) a = group-at-lt (wordIn image base p) p n refl (a .2)
     group-lt (Held p) a = held-at-lt (wordIn image base p) p refl (a .1)
 
-    put-lt : (g : Group Place) (rest : List (Rec ℕ)) → GroupLt g → AllLt (recordsNumbers rest) → AllLt (recordsNumbers (put φ g rest))
+    put-lt : (g : Group Place) (rest : List (Rec ℕ)) → GroupLt g → Below (2 ^ 32) (recordsNumbers rest) → Below (2 ^ 32) (recordsNumbers (put φ g rest))
     unfolding put recordsNumbers
     put-lt (one r) rest h l = record-lt (numbered φ r) (recordsNumbers rest) h l
     put-lt (two r s) rest h l =
         record-lt (numbered φ r) (recordNumbers (numbered φ s) (recordsNumbers rest)) (h .0) (record-lt (numbered φ s) (recordsNumbers rest) (h .1) l)
 
-    records-lt : (ps : List Place) → AllP Aligned ps → AllLt (recordsNumbers (recordsFrom image base φ ps))
+    records-lt : (ps : List Place) → AllP Aligned ps → Below (2 ^ 32) (recordsNumbers (recordsFrom image base φ ps))
     unfolding recordsFrom recordsNumbers
     records-lt [] a = tt
     records-lt (y ∷ ys) a = put-lt (group image base y) (recordsFrom image base φ ys) (group-lt y (a .0)) (records-lt ys (a .1))

@@ -6,22 +6,18 @@ use mathlib.Core.Bool.{Bool, true}
 use mathlib.Core.List.{List, [], _∷_}
 use mathlib.Core.Option.{some}
 use lib.ListN.{getElem?, length, take, getD}
+use Rattle.numbers.specs.Number.{Below}
 use Rattle.machine.specs.Ends.{Ending, ending, State, state, live}
-use Rattle.machine.specs.Effect.{Machine, machine}
+use Rattle.machine.specs.Effect.{machine}
 use Rattle.model.specs.declared.Answer.the-variants.{Accepted}
 use Rattle.model.specs.Run.{run}
-use Rattle.model.specs.OldCore.{Old, inImage}
+use Rattle.model.specs.OldCore.{inImage}
 use Rattle.model.specs.Places.{plain, Makes}
 use Rattle.model.specs.Records.{Rec, goHeld, numbersIn, recordsIn}
 use Rattle.model.specs.NewCore.{New, new}
 use Rattle.model.specs.Translation.{Handed, translation}
 use Rattle.model.specs.Trails.{Core, Trail, at, trailFrom, entries, closing, opening, lastAt, gaps, OneOrTwo, Unspent, stood, Traced}
 use Rattle.model.specs.Cores.{Start, oldOver, newOver, oldBegin, newBegin, stepsFor, trailOf}
-
--- an area of bytes
-abbrev pub AllBytes : List ℕ → Type 0
-AllBytes [] = Unit {0}
-AllBytes (b ∷ bs) = (b < 256) × AllBytes bs
 
 -- "any address with a plain place to begin at": 01, "where the rules under Places make one from image, base and entry list"
 abbrev pub Placed : List ℕ → ℕ → List ℕ → ℕ → Type 0
@@ -52,14 +48,17 @@ pub record Complete {S : Type 0} (c : Core S) (k : ℕ) (x : State S) : Type 0 w
   pub ends-as : (n v : ℕ) → closing (trailOf c k x) ≡ ending (suc n) v
       → (steps : ℕ) × ((s : S) × (run (c .next) steps x ≡ state s (ending (suc n) v)))
 
+-- a kind 6 is at hand, and h is the held address
+abbrev pub GoesBy : List (Rec ℕ) → New → ℕ → Type 0
+GoesBy records (new m r held) h = (getElem? records r ≡ some goHeld) × (held ≡ h)
+
 -- "where the new core goes by a held address that lies in the image and has no plain place, and the cut leaves room for the entry at
--- that address": h is that address
-pub record Strays (placed : ℕ → Type 0) (inside : ℕ → Bool) (records : List (Rec ℕ)) (c : Core New) (k : ℕ) (x : State New) (h : ℕ) : Type 0 where
+-- that address": h is that address, and after so many steps the core is still going and about to go by it
+pub record Strays {S : Type 0} (goesBy : S → ℕ → Type 0) (placed : ℕ → Type 0) (inside : ℕ → Bool) (c : Core S) (k : ℕ) (x : State S) (h : ℕ) : Type 0 where
   pub steps : ℕ
-  pub machine : Machine
-  pub record-number : ℕ
-  pub going : run (c .next) steps x ≡ live (new machine record-number h)
-  pub kind-6 : getElem? records record-number ≡ some goHeld
+  pub there : S
+  pub going : run (c .next) steps x ≡ live there
+  pub by-held : goesBy there h
   pub in-image : inside h ≡ true
   pub no-place : ¬ placed h
   pub room : stood c steps x < k
@@ -78,19 +77,19 @@ pub record Claim (strays : ℕ → Type 0) (t u : Trail) : Type 0 where
   pub old-pace : OneOrTwo (gaps t)
 
 -- the two cores, o begun as a and n begun as b, and their trails cut at k
-pub record Holds (placed : ℕ → Type 0) (inside : ℕ → Bool) (records : List (Rec ℕ)) (k : ℕ) (x y : Start)
-    (o : Core Old) (a : State Old) (n : Core New) (b : State New) : Type 0 where
+pub record Holds {S T : Type 0} (goesBy : T → ℕ → Type 0) (placed : ℕ → Type 0) (inside : ℕ → Bool) (k : ℕ) (x y : Start)
+    (o : Core S) (a : State S) (n : Core T) (b : State T) : Type 0 where
   pub old-begins : Begins x (trailOf o k a)
   pub new-begins : Begins y (trailOf n k b)
   pub old-complete : Complete o k a
   pub new-complete : Complete n k b
-  pub claim : Claim (Strays placed inside records n k b) (trailOf o k a) (trailOf n k b)
+  pub claim : Claim (Strays goesBy placed inside n k b) (trailOf o k a) (trailOf n k b)
 
 unfoldable pub Demand3 : Type 0
 Demand3 =
     -- "Take any accepted image, base and entry list", as bytes, whatever the lengths of the buffers
     (image : List ℕ) (base : ℕ) (entryList : List ℕ) (placesLength recordsLength position placeCount recordCount : ℕ)
-    → AllBytes image → AllBytes entryList
+    → Below 256 image → Below 256 entryList
     → (handed : Handed) → handed ≡ translation image base entryList placesLength recordsLength position
     → handed .answer ≡ Accepted placeCount recordCount
     -- "for each core, any address with a plain place to begin at and any registers, flags and data"
@@ -99,6 +98,6 @@ Demand3 =
     → (db k : ℕ) → 1 ≤ k
     -- 01: "Over a translation it is given just the places and records counted, no zeros past them."
     → (places records : List ℕ) → places ≡ take (16 * placeCount) (handed .places) → records ≡ take (12 * recordCount) (handed .records)
-    → Holds (Placed image base entryList) (inImage base (length image)) (recordsIn records) k x y
+    → Holds (GoesBy (recordsIn records)) (Placed image base entryList) (inImage base (length image)) k x y
     (oldOver image base db) (oldBegin x)
     (newOver records places base (length image) db) (newBegin places base (length image) y)

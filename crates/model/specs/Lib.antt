@@ -11,4 +11,5 @@ pub mod Demand3
 pub mod OldState
 pub mod NewState
 pub mod StateBytes
+pub mod Interface
 pub mod Cases

@@ -5,9 +5,9 @@ use Rattle.numbers.specs.Number.{numberAt, numbersOf, bytesOf}
 use Rattle.words.specs.Conditions.{bitOf}
 use Rattle.machine.specs.Ends.{Ending, ending, endingFrom, State, state}
 use Rattle.machine.specs.Effect.{Machine, machine}
-use Rattle.model.specs.OldCore.{Old, old}
-use Rattle.model.specs.NewCore.{New, new}
-use Rattle.model.specs.Run.{zeroed}
+use Rattle.model.specs.OldCore.{Old, old, oldNext, oldBegun}
+use Rattle.model.specs.NewCore.{New, new, newNext, newBegun}
+use Rattle.model.specs.Run.{run, zeroed, dataOf, beyond}
 use Rattle.model.specs.OldState.{isSet}
 
 -- numbers 0 to 31 are the registers, number 32 the flags, of which the low four bits count
@@ -48,3 +48,17 @@ oldAfter (state (old m pc npc annul) e) rest =
 
 unfoldable pub newAfter : State New → List ℕ → After
 newAfter (state (new m r h) e) rest = record { ended = e; state = newBytes (state (new m r h) e); area = m .area ++ rest }
+
+-- what the exported functions leave: of a begin, and of a run of a given count over a lent area
+unfoldable pub oldBegins : ℕ → List ℕ → List ℕ
+oldBegins pc bytes = oldBytes (oldBegun pc (machineIn bytes []))
+
+unfoldable pub oldRuns : List ℕ → ℕ → ℕ → ℕ → List ℕ → List ℕ → After
+oldRuns image base db count bytes area = oldAfter (run (oldNext image base db) count (oldIn bytes (dataOf area))) (beyond area)
+
+unfoldable pub newBegins : List ℕ → ℕ → ℕ → ℕ → List ℕ → After
+newBegins places base size a bytes = newAfter (newBegun places base size a (machineIn bytes [])) []
+
+unfoldable pub newRuns : List ℕ → List ℕ → ℕ → ℕ → ℕ → ℕ → List ℕ → List ℕ → After
+newRuns records places base size db count bytes area =
+    newAfter (run (newNext records places base size db) count (newIn bytes (dataOf area))) (beyond area)

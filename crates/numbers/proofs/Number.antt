@@ -12,8 +12,9 @@ use lib.Pow.{shr-shr}
 use borrow.Author.Fill.{fill-more}
 use borrow.Author.Tests.{ltb-true, ltb-false}
 use Rattle.numbers.specs.Choice.{pick}
-use Rattle.numbers.specs.Number.{minus, putNumber, zeroFrom, numberAt, numbersOf, bytesOf, upTo}
+use Rattle.numbers.specs.Number.{Below, minus, putNumber, zeroFrom, numberAt, numbersOf, bytesOf, upTo}
 use Rattle.numbers.proofs.Choice.{by-test}
+use Rattle.numbers.proofs.Bounds.{below-get}
 
 -- the lowest byte of a sum, and the rest
 lowest : (a q : ℕ) → a < 256 → (a + q * 256) % 256 ≡ a
@@ -101,11 +102,6 @@ bytes-at vs i h =
       byte-3 = bytes-from vs i 3 ∙ rw e;
     }
 
--- numbers of 32 bits
-abbrev pub AllLt : List ℕ → Type 0
-AllLt [] = Unit {0}
-AllLt (v ∷ vs) = (v < 2 ^ 32) × AllLt vs
-
 -- a number of 32 bits comes back from its four bytes, one byte after the other
 next-byte : (u c : ℕ) → u / 256 ≡ c → c * 256 + u % 256 ≡ u
 next-byte u c e = omega arith
@@ -119,26 +115,12 @@ number-back v h =
     (omega arith) (next-byte (v / 2 ^ 16) (v / 2 ^ 24) (shr-shr v 16 8)) (next-byte (v / 2 ^ 8) (v / 2 ^ 16) (shr-shr v 8 8))
     (next-byte v (v / 2 ^ 8) refl)
 
-all-lt-at : (vs : List ℕ) (i : ℕ) → AllLt vs → i < length vs → getD vs i 0 < 2 ^ 32
-all-lt-at [] i a h = omega arith
-all-lt-at (v ∷ vs) zero a h = a .0
-all-lt-at (v ∷ vs) (suc i) a h = all-lt-at vs i (a .1) (omega arith)
-
-all-lt-append : (vs ws : List ℕ) → AllLt vs → AllLt ws → AllLt (vs ++ ws)
-all-lt-append [] ws a b = b
-all-lt-append (v ∷ vs) ws a b = (a .0, all-lt-append vs ws (a .1) b)
-
-pub all-lt-up : (f : ℕ → ℕ) (n : ℕ) → ((i : ℕ) → f i < 2 ^ 32) → AllLt (upTo f n)
-unfolding upTo
-all-lt-up f zero h = tt
-all-lt-up f (suc n) h = all-lt-append (upTo f n) (f n ∷ []) (all-lt-up f n h) (h n, tt)
-
 -- what is packed is read back
-pub number-packed : (vs : List ℕ) (i at : ℕ) → AllLt vs → i < length vs → at ≡ 4 * i → numberAt (bytesOf vs) at ≡ getD vs i 0
+pub number-packed : (vs : List ℕ) (i at : ℕ) → Below (2 ^ 32) vs → i < length vs → at ≡ 4 * i → numberAt (bytesOf vs) at ≡ getD vs i 0
 unfolding numberAt
 number-packed vs i at a h e =
     let b = bytes-at vs i h in
-    rw (e, b .byte-0, b .byte-1, b .byte-2, b .byte-3) (number-back (getD vs i 0) (all-lt-at vs i a h))
+    rw (e, b .byte-0, b .byte-1, b .byte-2, b .byte-3) (number-back (getD vs i 0) (below-get (2 ^ 32) vs i (omega arith) a))
 
 -- a list of bytes with one more number of a list put into it
 pub put-more : (l : List ℕ) (at : ℕ) (vs : List ℕ) (i : ℕ) → at + 4 * length vs ≤ length l → i < length vs

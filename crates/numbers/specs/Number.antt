@@ -1,5 +1,5 @@
 -- Numbers of 32 bits, and numbers of four bytes, big-endian, in lists of bytes.
-use Prim.Native.Nat.{ℕ, zero, suc, _+_, _*_, _-_, _/_, _%_, _^_}
+use Prim.Native.Nat.{ℕ, zero, suc, _+_, _*_, _-_, _/_, _%_, _^_, _<_}
 use mathlib.Core.List.{List, [], _∷_, _++_}
 use lib.Dec.{ltb}
 use lib.ListN.{length, getD, set, take, replicate}
@@ -43,3 +43,8 @@ bytesOf (v ∷ vs) = v / 2 ^ 24 % 256 ∷ v / 2 ^ 16 % 256 ∷ v / 2 ^ 8 % 256 �
 -- the first n bytes as they are, and 0 for each byte after them
 unfoldable pub zeroFrom : ℕ → List ℕ → List ℕ
 zeroFrom n bytes = take n bytes ++ replicate (length bytes - n) 0
+
+-- each number of a list is below a bound: bytes below 256, numbers of 32 bits below 2^32
+abbrev pub Below : ℕ → List ℕ → Type 0
+Below n [] = Unit {0}
+Below n (v ∷ vs) = (v < n) × Below n vs

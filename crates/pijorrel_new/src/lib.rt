@@ -3,10 +3,9 @@ ghost use mathlib.Core.Path.{_≡_};
 ghost use mathlib.Core.List.{List, []};
 ghost use Prim.Native.Nat.{ℕ};
 ghost use Rattle.machine.specs.Ends.{ending, endingOf};
-ghost use Rattle.model.specs.Run.{run, zeroed, dataOf, beyond};
-ghost use Rattle.model.specs.NewCore.{newNext, newBegun};
+ghost use Rattle.model.specs.Run.{zeroed};
 ghost use Rattle.model.specs.NewState.{newState};
-ghost use Rattle.model.specs.StateBytes.{machineIn, newIn, newBytes, after, newAfter};
+ghost use Rattle.model.specs.StateBytes.{newIn, newBytes, after, newBegins, newRuns};
 use machine::Ended;
 use machine::Flags;
 use machine::SourcePc;
@@ -67,7 +66,7 @@ pub extern "C" fn pijorrel_new_begin(
     a: u32,
     state: &mut [u8; 148],
 ) -> Ended
-    ensures { λ r. ⌜ after (r .end) (r .number) (now (state .exit)) [] ≡ newAfter (newBegun (now (places .entry)) base size a (machineIn (now (state .entry)) [])) [] ⌝ }
+    ensures { λ r. ⌜ after (r .end) (r .number) (now (state .exit)) [] ≡ newBegins (now (places .entry)) base size a (now (state .entry)) ⌝ }
 {
     let core = new_core::begin(places, base, size, decode(state), a);
     encode(core, state)
@@ -85,7 +84,7 @@ pub extern "C" fn pijorrel_new_run(
     area: &mut [u8],
     count: u16,
 ) -> Ended
-    ensures { λ r. ⌜ after (r .end) (r .number) (now (state .exit)) (now (area .exit)) ≡ newAfter (run (newNext (now (records .entry)) (now (places .entry)) base size db) count (newIn (now (state .entry)) (dataOf (now (area .entry))))) (beyond (now (area .entry))) ⌝ }
+    ensures { λ r. ⌜ after (r .end) (r .number) (now (state .exit)) (now (area .exit)) ≡ newRuns (now (records .entry)) (now (places .entry)) base size db count (now (state .entry)) (now (area .entry)) ⌝ }
 {
     let core = new_core::run(records, places, base, size, db, decode(state), area, count);
     encode(core, state)

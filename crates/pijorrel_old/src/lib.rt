@@ -1,12 +1,11 @@
 // The old core for a loader in C: numbers and byte areas, numbers big-endian. Any bytes are a state.
 ghost use mathlib.Core.Path.{_≡_};
-ghost use mathlib.Core.List.{List, []};
+ghost use mathlib.Core.List.{List};
 ghost use Prim.Native.Nat.{ℕ};
 ghost use Rattle.machine.specs.Ends.{ending, endingOf};
-ghost use Rattle.model.specs.Run.{run, zeroed, dataOf, beyond};
-ghost use Rattle.model.specs.OldCore.{oldNext, oldBegun};
+ghost use Rattle.model.specs.Run.{zeroed};
 ghost use Rattle.model.specs.OldState.{oldState};
-ghost use Rattle.model.specs.StateBytes.{machineIn, oldIn, oldBytes, after, oldAfter};
+ghost use Rattle.model.specs.StateBytes.{oldIn, oldBytes, after, oldBegins, oldRuns};
 use machine::Ended;
 use machine::Flags;
 use machine::SourcePc;
@@ -63,7 +62,7 @@ fn encode(core: OldCore, state: &mut [u8; 152]) -> Ended
 // Begins at an address: registers and flags stay.
 #[no_mangle]
 pub extern "C" fn pijorrel_old_begin(pc: u32, state: &mut [u8; 152])
-    ensures { λ _. ⌜ now (state .exit) ≡ oldBytes (oldBegun pc (machineIn (now (state .entry)) [])) ⌝ }
+    ensures { λ _. ⌜ now (state .exit) ≡ oldBegins pc (now (state .entry)) ⌝ }
 {
     let core = old_core::begin(decode(state), pc);
     let _r = encode(core, state);
@@ -79,7 +78,7 @@ pub extern "C" fn pijorrel_old_run(
     area: &mut [u8],
     count: u16,
 ) -> Ended
-    ensures { λ r. ⌜ after (r .end) (r .number) (now (state .exit)) (now (area .exit)) ≡ oldAfter (run (oldNext (now (image .entry)) base db) count (oldIn (now (state .entry)) (dataOf (now (area .entry))))) (beyond (now (area .entry))) ⌝ }
+    ensures { λ r. ⌜ after (r .end) (r .number) (now (state .exit)) (now (area .exit)) ≡ oldRuns (now (image .entry)) base db count (now (state .entry)) (now (area .entry)) ⌝ }
 {
     let core = old_core::run(image, base, db, decode(state), area, count);
     encode(core, state)

@@ -1,7 +1,7 @@
 use Rattle.machine.specs.Ends.{State}
 use Rattle.model.specs.Run.{lent}
 use Rattle.model.specs.NewCore.{newBegun, New}
-use Rattle.model.specs.StateBytes.{newIn}
+use Rattle.model.specs.StateBytes.{newIn, newBegins}
 use Rattle.pijorrel_new.proofs.States.{same-machine, after-run}
 use mathlib.Core.List.{[]}
 use mathlib.Core.Path.{ap, _∙_}
@@ -19,7 +19,7 @@ encode-requires : tie.Need-encode-requires
 encode-requires c κs = search needs
 
 returns : tie.Need-returns
-unfolding newIn
+unfolding newBegins newIn
 returns c = let k = c .before .before .before .before .before .before .args in
     after-run _ _ [] _ [] _ _ _ (c .encode .ensures .0) (c .encode .ensures .1 [])
     (ap (λ (x : State New). lent x []) (c .before .before .begin .ensures [] ∙ ap (newBegun (k .places .now) (k .base) (k .size) (k .a)) (same-machine (c .before .before .before .decode .ensures []))))

@@ -1,5 +1,5 @@
 use Rattle.model.specs.OldCore.{oldBegun}
-use Rattle.model.specs.StateBytes.{oldIn, oldBytes}
+use Rattle.model.specs.StateBytes.{oldIn, oldBytes, oldBegins}
 use Rattle.pijorrel_old.proofs.States.{same-machine}
 use mathlib.Core.List.{[]}
 use mathlib.Core.Path.{ap, _∙_}
@@ -17,7 +17,7 @@ encode-requires : tie.Need-encode-requires
 encode-requires c κs = search needs
 
 returns : tie.Need-returns
-unfolding oldIn
+unfolding oldBegins oldIn
 returns c = c .encode .ensures .1 [] ∙ ap oldBytes (c .before .before .begin .ensures [] ∙ ap (oldBegun _) (same-machine (c .before .before .before .decode .ensures [])))
 
 pub pijorrel-old-begin-spec : {M : Type 1} → statement M

@@ -1,4 +1,4 @@
-use mathlib.Core.Path.{_≡_, sym, _∙_}
+use mathlib.Core.Path.{sym, _∙_}
 use Rattle.words.proofs.Jmpl.{jmpl-read, no-jmpl-op, no-jmpl-op3}
 use borrow.Author.Needs.{needs}
 use Rattle.words.proofs.read_jmpl.Statement.{statement}
@@ -11,35 +11,27 @@ use Rattle.words.proofs.rd.Reads as rd-reads
 use Rattle.words.proofs.rs1.Reads as rs1-reads
 use Rattle.words.proofs.second_operand.Reads as second-operand-reads
 
--- src/lib.rt:239:8
 op-requires : tie.Need-op-requires
 op-requires c κs = search needs
 
--- src/lib.rt:240:12
 op3-requires : tie.Need-op3-requires
 op3-requires c κs = search needs
 
--- src/lib.rt:241:38
 rd-requires : tie.Need-rd-requires
 rd-requires c κs = search needs
 
--- src/lib.rt:241:48
 rs1-requires : tie.Need-rs1-requires
 rs1-requires c κs = search needs
 
--- src/lib.rt:241:59
 second-operand-requires : tie.Need-second-operand-requires
 second-operand-requires c κs = search needs
 
--- src/lib.rt:241:13
 returns : tie.Need-returns
 returns c = rw (c .before .before .rd .ensures, c .before .rs1 .ensures, c .second-operand .ensures) (jmpl-read _ (sym (c .before .before .before .before .before .before .op .ensures) ∙ c .before .before .before .before .before .if1 .taken) (sym (c .before .before .before .before .op3 .ensures) ∙ c .before .before .before .if2 .taken))
 
--- src/lib.rt:236:1
 returns-2 : tie.Need-returns-2
 returns-2 c = no-jmpl-op3 _ (sym (c .before .before .before .op .ensures) ∙ c .before .before .if1 .taken) (λ e. c .if2 .left (c .before .op3 .ensures ∙ e))
 
--- src/lib.rt:236:1
 returns-3 : tie.Need-returns-3
 returns-3 c = no-jmpl-op _ (λ e. c .if1 .left (c .before .op .ensures ∙ e))
 

@@ -1,0 +1,260 @@
+-- Demand 3 on bytes: a call of count 1 is a step, so the trails read off the bytes are those of the cores. And runs add up.
+use Prim.Native.Nat.{ℕ, zero, suc, _+_, _%_, _^_, _≤_, _<_}
+use native.Mathlib.Omega.{arith}
+use mathlib.Core.Path.{_≡_, refl, sym, ap, _∙_, subst}
+use mathlib.Core.Logic.{_↔_}
+use mathlib.Core.Bool.{Bool, true, false}
+use mathlib.Core.List.{List, []}
+use mathlib.Core.Option.{none, some}
+use lib.Dec.{eqb}
+use lib.ListN.{length, take-append-drop, length-take}
+use Rattle.numbers.specs.Choice.{pick}
+use Rattle.numbers.specs.Number.{Below, plus, numberAt}
+use Rattle.numbers.proofs.Bounds.{plus-lt}
+use Rattle.words.specs.Conditions.{bitOf}
+use Rattle.machine.specs.Ends.{Ending, ending, go, State, state, live}
+use Rattle.machine.specs.Effect.{Machine}
+use Rattle.model.specs.Run.{dataOf}
+use Rattle.model.specs.OldCore.{Old, old, inImage, oldNext, oldBegun}
+use Rattle.model.specs.Places.{plain}
+use Rattle.model.specs.Records.{first, rowsIn, recordsIn}
+use Rattle.model.specs.NewCore.{New, new, newNext, seek, begunAt, newBegun}
+use Rattle.model.specs.Translation.{placeRoom}
+use Rattle.model.specs.Trails.{Core, Unspent}
+use Rattle.model.specs.Cores.{oldMark, oldShown, oldOver, newMark, newShown, newFell, newOver, oldBegin, newBegin, stepsFor, trailOf}
+use Rattle.model.specs.Demand3.{Placed, Complete, GoesBy, Strays, Holds, Demand3}
+use Rattle.model.specs.StateBytes.{machineIn, oldIn, oldBytes, newIn, newBytes, After, oldAfter, newAfter, oldBegins, oldRuns, newBegins, newRuns}
+use Rattle.model.specs.Interface.{Bytes, bytes, answered, called, bytesShown, oldBytesMark, oldCalls, newBytesMark, newBytesFell, newCalls, BytesGoBy, oldStarted, newStarted, startOf, Interface}
+use Rattle.model.proofs.Hop.{Over}
+use Rattle.model.proofs.Bounds.{SoundOld, SoundNew, found-lt}
+use Rattle.model.proofs.RoundTrip.{data-back, machine-sound}
+use Rattle.model.proofs.Shown.{shown-sound, start-shown}
+use Rattle.model.proofs.Related.{Beside, Related, from-same, strays-on, flipped, flip-beside, holds-on}
+use Rattle.model.proofs.Coded.{runs-add, Holding, called-step}
+use Rattle.model.proofs.Calls.{oldArea, old-coded, old-sound, old-pc, old-annul, old-shows, newArea, new-coded, new-sound, new-record, new-held, new-shows}
+use Rattle.model.proofs.Demand3.{complete, Laid, laid, finds, demand3}
+
+-- ---------------------------------------------------------------- a run of m and then one of n is a run of m + n
+pub old-runs-add : (image : List ℕ) (base db m n : ℕ) (bs l : List ℕ) → Below 256 bs → Below 256 l
+    → oldRuns image base db n (oldRuns image base db m bs l .state) (oldRuns image base db m bs l .area) ≡ oldRuns image base db (m + n) bs l
+unfolding oldRuns
+old-runs-add image base db m n bs l b d =
+    runs-add (oldNext image base db) oldAfter oldIn oldArea SoundOld (old-coded image base db) m n bs l (old-sound bs l b d)
+
+pub new-runs-add : (records places : List ℕ) (base size db m n : ℕ) (bs l : List ℕ) → Below 256 records → Below 256 places → Below 256 bs → Below 256 l
+    → newRuns records places base size db n (newRuns records places base size db m bs l .state) (newRuns records places base size db m bs l .area)
+    ≡ newRuns records places base size db (m + n) bs l
+unfolding newRuns
+new-runs-add records places base size db m n bs l br bp b d =
+    runs-add (newNext records places base size db) newAfter newIn newArea SoundNew (new-coded records places base size db br bp) m n bs l (new-sound bs l b d)
+
+-- ---------------------------------------------------------------- the old core on bytes
+data-few : (l : List ℕ) → length (dataOf l) ≤ 65536
+data-few l = omega (arith, length-take 65536 l)
+
+module _ (image : List ℕ) (base db : ℕ) (l : List ℕ) where
+  abbrev OldHolds : Bytes → Old → Type 0
+  OldHolds = Holding (oldNext image base db) oldAfter oldIn oldArea SoundOld (old-coded image base db) l
+
+  old-marks : (b : Bytes) (s : Old) → OldHolds b s → oldBytesMark b ≡ oldMark s
+  unfolding oldBytesMark oldMark oldAfter bitOf
+  old-marks b (old m pc npc annul) h =
+      let n = length (dataOf l) in
+      rw (h .0, old-annul n m pc npc annul 0 0 (h .1, refl), old-pc n m pc npc annul 0 0 (h .1, refl)) (go annul)
+    where
+      go : (a : Bool) → pick (eqb (bitOf a) 0) (some pc) none ≡ oldMark (old m pc npc a)
+      go true = refl
+      go false = refl
+
+  old-shown-same : (b : Bytes) (s : Old) → OldHolds b s → bytesShown b ≡ oldShown s
+  unfolding bytesShown oldShown oldAfter
+  old-shown-same b (old m pc npc annul) h =
+      let n = length (dataOf l) in
+      rw (h .0, data-back l (m .area) (h .1 .0 .sized) .0, old-shows n m pc npc annul 0 0 (h .1, refl), shown-sound n m (h .1 .0) (data-few l))
+
+  pub old-related : Related (oldCalls image base db) (oldOver image base db) OldHolds
+  unfolding oldRuns
+  old-related =
+      record {
+        marks = old-marks;
+        shows = old-shown-same;
+        falls = λ b s h. refl;
+        steps = λ b s h. called-step (oldNext image base db) oldAfter oldIn oldArea SoundOld (old-coded image base db) l b s h;
+      }
+
+  -- begun bytes hold the begun state
+  pub old-beside : (p : ℕ) (bs : List ℕ) → Below 256 bs → Below 256 l → p < 2 ^ 32 → Beside OldHolds (oldStarted p (bytes bs l)) (oldBegin (startOf p (bytes bs l)))
+  unfolding oldBegins oldBytes oldAfter machineIn oldBegun
+  old-beside p bs b d lp =
+      let m : Machine = machineIn bs (dataOf l) in (
+        old m p (plus p 4) false,
+        (
+          rw (start-shown bs (numberAt bs 128 % 16) l),
+          (
+            ap (λ (a : List ℕ). bytes (oldBytes (live (old m p (plus p 4) false))) a) (sym (take-append-drop 65536 l)),
+            (machine-sound bs l b d, lp, plus-lt p 4),
+          ),
+        ),
+      )
+
+-- ---------------------------------------------------------------- the new core on bytes
+module _ (records places : List ℕ) (base size db : ℕ) (br : Below 256 records) (bp : Below 256 places) (l : List ℕ) where
+  abbrev NewHolds : Bytes → New → Type 0
+  NewHolds = Holding (newNext records places base size db) newAfter newIn newArea SoundNew (new-coded records places base size db br bp) l
+
+  new-marks : (b : Bytes) (s : New) → NewHolds b s → newBytesMark places b ≡ newMark places s
+  unfolding newBytesMark newMark newAfter
+  new-marks b (new m r g) h = rw (h .0, new-record (length (dataOf l)) m r g 0 0 (h .1, refl))
+
+  new-falls : (b : Bytes) (s : New) → NewHolds b s → newBytesFell records b ≡ newFell records s
+  unfolding newBytesFell newFell newAfter
+  new-falls b (new m r g) h = rw (h .0, new-record (length (dataOf l)) m r g 0 0 (h .1, refl))
+
+  new-shown-same : (b : Bytes) (s : New) → NewHolds b s → bytesShown b ≡ newShown s
+  unfolding bytesShown newShown newAfter
+  new-shown-same b (new m r g) h =
+      let n = length (dataOf l) in
+      rw (h .0, data-back l (m .area) (h .1 .0 .sized) .0, new-shows n m r g 0 0 (h .1, refl), shown-sound n m (h .1 .0) (data-few l))
+
+  pub new-related : Related (newCalls records places base size db) (newOver records places base size db) NewHolds
+  unfolding newRuns
+  new-related =
+      record {
+        marks = new-marks;
+        shows = new-shown-same;
+        falls = new-falls;
+        steps = λ b s h. called-step (newNext records places base size db) newAfter newIn newArea SoundNew (new-coded records places base size db br bp) l b s h;
+      }
+
+  -- the same bytes go by the same held address
+  pub bytes-go : (b : Bytes) (s : New) (h : ℕ) → NewHolds b s → BytesGoBy (recordsIn records) b h → GoesBy (recordsIn records) s h
+  unfolding newAfter
+  bytes-go b (new m r g) h q y =
+      let n = length (dataOf l) in
+      let e : numberAt (b .state) 132 ≡ r = rw (q .0) (new-record n m r g 0 0 (q .1, refl)) in
+      let f : numberAt (b .state) 136 ≡ g = rw (q .0) (new-held n m r g 0 0 (q .1, refl)) in
+      (rw (← e) (y .0), sym f ∙ y .1)
+
+  pub go-bytes : (b : Bytes) (s : New) (h : ℕ) → NewHolds b s → GoesBy (recordsIn records) s h → BytesGoBy (recordsIn records) b h
+  unfolding newAfter
+  go-bytes b (new m r g) h q y =
+      let n = length (dataOf l) in
+      let e : numberAt (b .state) 132 ≡ r = rw (q .0) (new-record n m r g 0 0 (q .1, refl)) in
+      let f : numberAt (b .state) 136 ≡ g = rw (q .0) (new-held n m r g 0 0 (q .1, refl)) in
+      (rw e (y .0), f ∙ y .1)
+
+  pub new-beside : (q f : ℕ) (bs : List ℕ) → Below 256 bs → Below 256 l → f < 2 ^ 32 → seek (rowsIn places) q ≡ some f
+      → Beside NewHolds (newStarted places base size q (bytes bs l)) (newBegin places base size (startOf q (bytes bs l)))
+  unfolding newBegins newBytes newAfter machineIn newBegun begunAt
+  new-beside q f bs b d lf e =
+      let m : Machine = machineIn bs (dataOf l) in
+      rw e (
+        new m f 0,
+        (
+          rw (start-shown bs (numberAt bs 128 % 16) l),
+          (ap (λ (a : List ℕ). bytes (newBytes (live (new m f 0))) a) (sym (take-append-drop 65536 l)), (machine-sound bs l b d, lf, omega arith)),
+        ),
+      )
+
+  pub new-live : (q f : ℕ) (bs : List ℕ) → seek (rowsIn places) q ≡ some f
+      → newStarted places base size q (bytes bs l) ≡ live (bytes (newBytes (live (new (machineIn bs []) f 0))) l)
+  unfolding newBegins newAfter newBegun begunAt
+  new-live q f bs e = rw e
+
+-- ---------------------------------------------------------------- demand 3 on bytes
+-- a call ends only with an end above 0
+over-answered : (c : Core Bytes) (e : Ending) (b : Bytes) → Over c (answered e b)
+unfolding answered
+over-answered c (ending zero v) b = tt
+over-answered c (ending (suc n) v) b = omega arith
+
+over-called : (c : Core Bytes) (x : After) → Over c (called x)
+unfolding called
+over-called c x = over-answered c (x .ended) (bytes (x .state) (x .area))
+
+complete-at : (c : Core Bytes) → ((b : Bytes) → Over c (c .next b)) → (k : ℕ) (x : State Bytes) (b : Bytes) → x ≡ live b → Unspent (trailOf c k x) → Complete c k x
+complete-at c over k x b e u = subst (Complete c k) (sym e) (complete c over k b (subst (λ (z : State Bytes). Unspent (trailOf c k z)) e u))
+
+-- of an accepted call's places and records
+module _ (image : List ℕ) (base : ℕ) (entryList : List ℕ) (cap : ℕ) (places records : List ℕ) (L : Laid image base entryList cap places records) (db : ℕ) where
+  abbrev size : ℕ
+  size = length image
+
+  abbrev OC : Core Bytes
+  OC = oldCalls image base db
+
+  abbrev NC : Core Bytes
+  NC = newCalls records places base size db
+
+  over-old : (b : Bytes) → Over OC (OC .next b)
+  over-old b = over-called OC (oldRuns image base db 1 (b .state) (b .area))
+
+  over-new : (b : Bytes) → Over NC (NC .next b)
+  over-new b = over-called NC (newRuns records places base size db 1 (b .state) (b .area))
+
+  module _ (b c : Bytes) (bb : Below 256 (b .state)) (bd : Below 256 (b .area)) (cb : Below 256 (c .state)) (cd : Below 256 (c .area))
+      (p q : ℕ) (lp : p < 2 ^ 32) (hq : Placed image base entryList q) (k : ℕ) where
+    old-trails : trailOf OC k (oldStarted p b) ≡ trailOf (oldOver image base db) k (oldBegin (startOf p b))
+    old-trails =
+        from-same OC (oldOver image base db) (OldHolds image base db (b .area)) (old-related image base db (b .area)) (stepsFor k) k (oldStarted p b)
+        (oldBegin (startOf p b)) (old-beside image base db (b .area) p (b .state) bb bd lp)
+
+    abbrev NH : Bytes → New → Type 0
+    NH = NewHolds records places base size db (L .records-bytes) (L .places-bytes) (c .area)
+
+    abbrev N : Core New
+    N = newOver records places base size db
+
+    abbrev begun : State New
+    begun = newBegin places base size (startOf q c)
+
+    abbrev started : State Bytes
+    started = newStarted places base size q c
+
+    related : Related NC N NH
+    related = new-related records places base size db (L .records-bytes) (L .places-bytes) (c .area)
+
+    abbrev f : ℕ
+    f = 0 + first image base (L .ps) (plain q)
+
+    found : seek (rowsIn places) q ≡ some f
+    found = finds image base entryList cap places records L q hq
+
+    beside : Beside NH started begun
+    beside =
+        new-beside records places base size db (L .records-bytes) (L .places-bytes) (c .area) q f (c .state) cb cd
+        (rw found at (found-lt places q (L .places-bytes))) found
+
+    new-trails : trailOf NC k started ≡ trailOf N k begun
+    new-trails = from-same NC N NH related (stepsFor k) k started begun beside
+
+    strays-same : (h : ℕ) → Strays (GoesBy (recordsIn records)) (Placed image base entryList) (inImage base size) N k begun h
+        ↔ Strays (BytesGoBy (recordsIn records)) (Placed image base entryList) (inImage base size) NC k started h
+    strays-same h = (
+      strays-on N NC (λ s x. NH x s) (flipped related) (GoesBy (recordsIn records)) (BytesGoBy (recordsIn records)) (Placed image base entryList)
+          (inImage base size) k begun started h (flip-beside NH started begun beside)
+          (λ s x r. go-bytes records places base size db (L .records-bytes) (L .places-bytes) (c .area) x s h r),
+      strays-on NC N NH related (BytesGoBy (recordsIn records)) (GoesBy (recordsIn records)) (Placed image base entryList) (inImage base size) k started
+          begun h beside (λ x s r. bytes-go records places base size db (L .records-bytes) (L .places-bytes) (c .area) x s h r),
+    )
+
+    pub on-bytes : Holds (GoesBy (recordsIn records)) (Placed image base entryList) (inImage base size) k (startOf p b) (startOf q c) (oldOver image base db)
+        (oldBegin (startOf p b)) N begun
+        → Holds (BytesGoBy (recordsIn records)) (Placed image base entryList) (inImage base size) k (startOf p b) (startOf q c) OC (oldStarted p b) NC started
+    on-bytes H =
+        holds-on (GoesBy (recordsIn records)) (BytesGoBy (recordsIn records)) (Placed image base entryList) (inImage base size) k (startOf p b) (startOf q c)
+        (oldOver image base db) (oldBegin (startOf p b)) N begun OC (oldStarted p b) NC started old-trails new-trails
+        (complete OC over-old k (bytes (oldBegins p (b .state)) (b .area)) (subst Unspent (sym old-trails) (H .old-complete .unspent)))
+        (complete-at NC over-new k started (bytes (newBytes (live (new (machineIn (c .state) []) f 0))) (c .area))
+        (new-live records places base size db (L .records-bytes) (L .places-bytes) (c .area) q f (c .state) found)
+        (subst Unspent (sym new-trails) (H .new-complete .unspent)))
+        strays-same H
+
+pub interface : Interface
+unfolding Interface Demand3
+interface image base entryList placesLength recordsLength position placeCount recordCount ib eb handed eh accepted b c bb bd cb cd p q lp lq hp hq db k lk
+    places records et er =
+    let L = laid image base entryList placesLength recordsLength position placeCount recordCount ib eb handed eh accepted places records et er in
+    on-bytes image base entryList (placeRoom placesLength) places records L db b c bb bd cb cd p q lp hq k
+    (demand3 image base entryList placesLength recordsLength position placeCount recordCount ib eb handed eh accepted (startOf p b) (startOf q c) hp hq db k lk
+    places records et er)

@@ -1,0 +1,99 @@
+-- Demand 3 as a loader sees it: trails read off the bytes that the exported functions leave, each call being a run of count 1 on the
+-- state and data bytes that the last one left.
+use Prim.Native.Nat.{ℕ, zero, suc, _*_, _%_, _^_, _≤_, _<_}
+use mathlib.Core.Path.{_≡_}
+use mathlib.Core.List.{List}
+use mathlib.Core.Option.{Option, none, some}
+use mathlib.Core.Bool.{Bool, false}
+use lib.Dec.{eqb}
+use lib.ListN.{getElem?, length, take}
+use Rattle.numbers.specs.Choice.{pick}
+use Rattle.numbers.specs.Number.{Below, numberAt, numbersOf}
+use Rattle.machine.specs.Ends.{Ending, ending, Next, go, halt, State, state, live}
+use Rattle.machine.specs.Effect.{Machine, machine}
+use Rattle.model.specs.declared.Answer.the-variants.{Accepted}
+use Rattle.model.specs.Run.{dataOf}
+use Rattle.model.specs.OldCore.{inImage}
+use Rattle.model.specs.Records.{Rec, goHeld, rowsIn, recordsIn}
+use Rattle.model.specs.Translation.{Handed, translation}
+use Rattle.model.specs.Trails.{Core}
+use Rattle.model.specs.Cores.{naming, goesByHeld, Start}
+use Rattle.model.specs.Demand3.{Placed, Holds}
+use Rattle.model.specs.StateBytes.{After, oldBegins, oldRuns, newBegins, newRuns}
+
+-- what a loader holds of a core: the bytes of its state, and its data area
+pub record Bytes : Type 0 where
+  pub state : List ℕ
+  pub area : List ℕ
+
+abbrev pub bytes : List ℕ → List ℕ → Bytes
+bytes s a = record { state = s; area = a }
+
+-- a call: on with the bytes that it left, or the end that it answered
+unfoldable pub answered : Ending → Bytes → Next Bytes
+answered (ending zero v) b = go b
+answered (ending (suc n) v) b = halt (ending (suc n) v)
+
+unfoldable pub called : After → Next Bytes
+called x = answered (x .ended) (bytes (x .state) (x .area))
+
+-- an entry's registers, flags and data: numbers 0 to 32 of the state, and the data
+unfoldable pub bytesShown : Bytes → Machine
+bytesShown b = machine (numbersOf (b .state) 32) (numberAt (b .state) 128) (dataOf (b .area))
+
+-- the old core: PC is number 33 and annul number 35
+unfoldable pub oldBytesMark : Bytes → Option ℕ
+oldBytesMark b = pick (eqb (numberAt (b .state) 140) 0) (some (numberAt (b .state) 132)) none
+
+abbrev pub oldCalls : List ℕ → ℕ → ℕ → Core Bytes
+oldCalls image base db =
+    record { next = λ b. called (oldRuns image base db 1 (b .state) (b .area)); mark = oldBytesMark; shown = bytesShown; fell = λ b. false }
+
+-- the new core: the record number is number 33, the held address number 34
+unfoldable pub newBytesMark : List ℕ → Bytes → Option ℕ
+newBytesMark places b = naming (rowsIn places) (numberAt (b .state) 132)
+
+unfoldable pub newBytesFell : List ℕ → Bytes → Bool
+newBytesFell records b = goesByHeld (getElem? (recordsIn records) (numberAt (b .state) 132))
+
+abbrev pub newCalls : List ℕ → List ℕ → ℕ → ℕ → ℕ → Core Bytes
+newCalls records places base size db =
+    record {
+      next = λ b. called (newRuns records places base size db 1 (b .state) (b .area));
+      mark = newBytesMark places;
+      shown = bytesShown;
+      fell = newBytesFell records;
+    }
+
+-- a kind 6 is at hand, and h is the held address
+abbrev pub BytesGoBy : List (Rec ℕ) → Bytes → ℕ → Type 0
+BytesGoBy records b h = (getElem? records (numberAt (b .state) 132) ≡ some goHeld) × (numberAt (b .state) 136 ≡ h)
+
+-- begun at an address: begin keeps registers and flags; the data area is lent to the runs alone
+abbrev pub oldStarted : ℕ → Bytes → State Bytes
+oldStarted a b = live (bytes (oldBegins a (b .state)) (b .area))
+
+abbrev pub newStarted : List ℕ → ℕ → ℕ → ℕ → Bytes → State Bytes
+newStarted places base size a b =
+    let x = newBegins places base size a (b .state) in
+    state (bytes (x .state) (b .area)) (x .ended)
+
+-- the start that bytes are
+abbrev pub startOf : ℕ → Bytes → Start
+startOf a b = record { address = a; registers = numbersOf (b .state) 32; flags = numberAt (b .state) 128 % 16; area = b .area }
+
+unfoldable pub Interface : Type 0
+Interface =
+    -- what the translator's contract says of an accepted call
+    (image : List ℕ) (base : ℕ) (entryList : List ℕ) (placesLength recordsLength position placeCount recordCount : ℕ)
+    → Below 256 image → Below 256 entryList
+    → (handed : Handed) → handed ≡ translation image base entryList placesLength recordsLength position
+    → handed .answer ≡ Accepted placeCount recordCount
+    -- for each core any bytes of a state and any data, and an address, of 32 bits, with a plain place
+    → (b c : Bytes) → Below 256 (b .state) → Below 256 (b .area) → Below 256 (c .state) → Below 256 (c .area)
+    → (p q : ℕ) → p < 2 ^ 32 → q < 2 ^ 32 → Placed image base entryList p → Placed image base entryList q
+    → (db k : ℕ) → 1 ≤ k
+    → (places records : List ℕ) → places ≡ take (16 * placeCount) (handed .places) → records ≡ take (12 * recordCount) (handed .records)
+    → Holds (BytesGoBy (recordsIn records)) (Placed image base entryList) (inImage base (length image)) k (startOf p b) (startOf q c)
+    (oldCalls image base db) (oldStarted p b)
+    (newCalls records places base (length image) db) (newStarted places base (length image) q c)
