@@ -1,0 +1,4 @@
+pub mod Naming
+pub mod Rows
+pub mod Chains
+pub mod Worklist

@@ -1,0 +1,54 @@
+use Rattle.places.specs.Index.{hash}
+use Rattle.places.proofs.Chains.{hash-lt}
+use native.Mathlib.Omega.{arith}
+use borrow.Author.Needs.{needs}
+use Rattle.places.proofs.index.enter.Statement.{statement}
+use Rattle.places.proofs.index.enter.Tie as tie
+use Rattle.places.proofs.index.enter.Reads as reads
+use Rattle.places.proofs.index.enter.Lts as lts
+use Rattle.places.proofs.index.hash.Reads as hash-reads
+
+hash-requires : tie.Need-hash-requires
+hash-requires c κs = search needs
+
+mul-links : tie.Need-mul-links
+mul-links c = omega (arith, hash-lt (c .before .args .x))
+
+element-copy-out-links : tie.Need-element-copy-out-links
+element-copy-out-links c = omega (arith, hash-lt (c .before .args .x))
+
+mul-links-2 : tie.Need-mul-links-2
+mul-links-2 c = search needs
+
+element-write-links : tie.Need-element-write-links
+element-write-links c = search needs
+
+add-heads : tie.Need-add-heads
+add-heads c = search needs
+
+cast-heads : tie.Need-cast-heads
+cast-heads c = search needs
+
+mul-heads : tie.Need-mul-heads
+mul-heads c = omega (arith, hash-lt (c .before .before .args .x))
+
+element-write-heads : tie.Need-element-write-heads
+element-write-heads c = omega (arith, hash-lt (c .before .before .args .x))
+
+returns : tie.Need-returns
+returns c = (rw (c .before .hash .ensures), rw (c .before .hash .ensures))
+
+pub enter-spec : {M : Type 1} → statement M
+enter-spec =
+    tie.close
+    (tie.spec
+    hash-requires
+    mul-links
+    element-copy-out-links
+    mul-links-2
+    element-write-links
+    add-heads
+    cast-heads
+    mul-heads
+    element-write-heads
+    returns)

@@ -1,0 +1,24 @@
+use Rattle.model.specs.Cases.{given}
+use Rattle.model.specs.Places.{placeAt}
+use borrow.Author.Needs.{needs}
+use Rattle.places.proofs.table.address.Statement.{statement}
+use Rattle.places.proofs.table.address.Tie as tie
+use Rattle.places.proofs.table.address.Reads as reads
+use Rattle.places.proofs.table.address.Lts as lts
+
+enum-known-x : tie.Need-enum-known-x
+enum-known-x c = search needs
+
+enum-known-x-2 : tie.Need-enum-known-x-2
+enum-known-x-2 c = search needs
+
+returns : tie.Need-returns
+unfolding placeAt
+returns c = rw (c .before .x .given .1)
+
+returns-2 : tie.Need-returns-2
+unfolding placeAt
+returns-2 c = rw (c .before .x2 .given .1)
+
+pub address-spec : {M : Type 1} → statement M
+address-spec = tie.close (tie.spec enum-known-x enum-known-x-2 returns returns-2)

@@ -1,0 +1,63 @@
+use Rattle.model.specs.Cases.{start, given}
+use Rattle.model.specs.Walk.{walk}
+use Rattle.places.proofs.Worklist.{within-places, indexed-places, known-by, ended-forbidden, ended-full, from-entries, onward-places, onward-forbidden, onward-full}
+use native.Mathlib.Omega.{arith}
+use mathlib.Core.Path.{sym, _∙_}
+use borrow.Author.Needs.{needs}
+use Rattle.places.proofs.walk.find_places.Statement.{statement}
+use Rattle.places.proofs.walk.find_places.Tie as tie
+use Rattle.places.proofs.walk.find_places.Reads as reads
+use Rattle.places.proofs.walk.find_places.Lts as lts
+use Rattle.places.proofs.walk.start.Reads as start-reads
+use Rattle.places.proofs.walk.walk.Reads as walk-reads
+
+start-requires : tie.Need-start-requires
+start-requires c κs = search needs
+
+enum-known-w : tie.Need-enum-known-w
+enum-known-w c = search needs
+
+walk-requires : tie.Need-walk-requires
+walk-requires c κs = let e = c .before .before .before .before .w .given .1 in
+    let g = c .before .before .before .before .before .before .before .before .start .ensures in
+    (within-places e (g .fits), omega arith, omega arith, indexed-places e (g .index))
+
+enum-known-w-2 : tie.Need-enum-known-w-2
+enum-known-w-2 c = search needs
+
+enum-known-w-3 : tie.Need-enum-known-w-3
+enum-known-w-3 c = search needs
+
+same-length : tie.Need-same-length
+same-length c = search needs
+
+returns : tie.Need-returns
+returns c = known-by (sym (onward-places _ _ (c .before .before .before .before .before .before .before .w .given .1)) ∙ from-entries _ _ _ _ _ _ (c .before .before .before .before .before .before .before .before .before .before .before .start .ensures .reads)) (c .before .before .walk .ensures)
+
+same-length-2 : tie.Need-same-length-2
+same-length-2 c = search needs
+
+returns-2 : tie.Need-returns-2
+returns-2 c = ended-forbidden _ _ _ (sym (onward-forbidden _ _ (c .before .w2 .given .1)) ∙ from-entries _ _ _ _ _ _ (c .before .before .before .before .before .start .ensures .reads))
+
+same-length-3 : tie.Need-same-length-3
+same-length-3 c = search needs
+
+returns-3 : tie.Need-returns-3
+returns-3 c = ended-full _ _ _ (sym (onward-full _ _ (c .before .w3 .given .1)) ∙ from-entries _ _ _ _ _ _ (c .before .before .before .before .before .start .ensures .reads))
+
+pub find-places-spec : {M : Type 1} → statement M
+find-places-spec =
+    tie.close
+    (tie.spec
+    start-requires
+    enum-known-w
+    walk-requires
+    enum-known-w-2
+    enum-known-w-3
+    same-length
+    returns
+    same-length-2
+    returns-2
+    same-length-3
+    returns-3)

@@ -1,0 +1,98 @@
+use Rattle.model.specs.Cases.{given}
+use Rattle.model.specs.Walk.{handle, walk}
+use Rattle.places.proofs.Worklist.{within-places, indexed-places, ended-forbidden, ended-full, still, onward-places, onward-forbidden, onward-full, walk-on, walk-end}
+use Rattle.places.specs.Table.{placesIn}
+use Rattle.places.specs.Index.{Indexed}
+use borrow.Author.Needs.{needs}
+use lib.ListN.{length}
+use native.Mathlib.Nat.{sub-zero}
+use native.Mathlib.Omega.{arith}
+use mathlib.Core.Path.{_≡_, refl, sym, _∙_}
+use Prim.Native.Nat.{suc, _-_, _≤_}
+use Rattle.places.proofs.walk.walk.Statement.{statement}
+use Rattle.places.proofs.walk.walk.Tie as tie
+use Rattle.places.proofs.walk.walk.Reads as reads
+use Rattle.places.proofs.walk.walk.Lts as lts
+use Rattle.places.proofs.walk.handle.Reads as handle-reads
+
+abbrev Inv-loop : tie.InvT-loop
+Inv-loop image base places₀ heads₀ links₀ count room n₀ i₀ places heads links n i =
+    (n ≤ room) × (i ≤ room) × (length places ≡ length places₀)
+    × (walk image base (suc room - i) room i (placesIn places n) ≡ walk image base (suc room) room 0 (placesIn places₀ count))
+    × Indexed places n heads links
+
+abbrev μ-loop : tie.MeasureT-loop
+μ-loop image base places₀ heads₀ links₀ count room n₀ i₀ places heads links n i = room - i
+
+loop-holds : tie.Need-loop-holds Inv-loop μ-loop
+loop-holds c = let s = c .before .before in (s .pre .0, omega arith, refl, rw sub-zero, s .pre .3)
+
+handle-requires : tie.Need-handle-requires Inv-loop μ-loop
+handle-requires c κs = let i = c .before .before .before .before .loop .inv in (omega arith, omega arith, omega arith, omega arith, i .4)
+
+enum-known-w : tie.Need-enum-known-w Inv-loop μ-loop
+enum-known-w c = search needs
+
+enum-known-w-2 : tie.Need-enum-known-w-2 Inv-loop μ-loop
+enum-known-w-2 c = search needs
+
+same-length : tie.Need-same-length Inv-loop μ-loop
+same-length c = search needs
+
+returns : tie.Need-returns Inv-loop μ-loop
+returns c = let b = c .before .before .before .before .before .before .before .before .before .before .loop in
+    ended-forbidden _ _ _ (sym (onward-forbidden _ _ (c .before .w2 .given .1)) ∙ walk-on _ _ _ _ _ _ _ _ (c .before .before .before .before .before .before .before .before .before .loop-test .taken) (b .inv .0) (c .before .before .before .before .before .handle .ensures .reads) ∙ b .inv .3)
+
+enum-known-w-3 : tie.Need-enum-known-w-3 Inv-loop μ-loop
+enum-known-w-3 c = search needs
+
+same-length-2 : tie.Need-same-length-2 Inv-loop μ-loop
+same-length-2 c = search needs
+
+returns-2 : tie.Need-returns-2 Inv-loop μ-loop
+returns-2 c = let b = c .before .before .before .before .before .before .before .before .before .before .loop in
+    ended-full _ _ _ (sym (onward-full _ _ (c .before .w3 .given .1)) ∙ walk-on _ _ _ _ _ _ _ _ (c .before .before .before .before .before .before .before .before .before .loop-test .taken) (b .inv .0) (c .before .before .before .before .before .handle .ensures .reads) ∙ b .inv .3)
+
+add-i : tie.Need-add-i Inv-loop μ-loop
+add-i c = omega arith
+
+loop-less : tie.Need-loop-less Inv-loop μ-loop
+loop-less c = omega arith
+
+loop-again : tie.Need-loop-again Inv-loop μ-loop
+loop-again c = let b = c .before .before .before .before .before .before .before .before .before .before .loop in
+    let e = c .before .w .given .1 in
+    let g = c .before .before .before .before .before .handle .ensures in (
+      within-places e (g .fits),
+      omega arith,
+      omega arith,
+      sym (onward-places _ _ e) ∙ walk-on _ _ _ _ _ _ _ _ (c .before .before .before .before .before .before .before .before .before .loop-test .taken) (b .inv .0) (g .reads) ∙ b .inv .3,
+      indexed-places e (g .index),
+    )
+
+same-length-3 : tie.Need-same-length-3 Inv-loop μ-loop
+same-length-3 c = search needs
+
+returns-3 : tie.Need-returns-3 Inv-loop μ-loop
+returns-3 c = let b = c .before .loop in still (walk-end _ _ _ _ _ _ (c .loop-test .left) (b .inv .1) ∙ b .inv .3) (b .inv .0) (b .inv .4)
+
+pub walk-spec : {M : Type 1} → statement M
+walk-spec =
+    tie.close
+    (tie.spec
+    Inv-loop
+    μ-loop
+    loop-holds
+    handle-requires
+    enum-known-w
+    enum-known-w-2
+    same-length
+    returns
+    enum-known-w-3
+    same-length-2
+    returns-2
+    add-i
+    loop-less
+    loop-again
+    same-length-3
+    returns-3)

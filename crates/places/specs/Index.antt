@@ -1,0 +1,41 @@
+-- The index of the place table: places with one hash form a chain, from the newest to the oldest.
+use Prim.Native.Nat.{ℕ, zero, suc, _+_, _*_, _/_, _%_, _<_}
+use mathlib.Core.List.{List}
+use mathlib.Core.Path.{_≡_}
+use lib.ListN.{length, getD}
+use lib.Dec.{eqb}
+use Rattle.numbers.specs.Choice.{pick}
+use Rattle.model.specs.declared.Place.{Place}
+use Rattle.model.specs.declared.Place.the-variants.{Pair, Held}
+use Rattle.model.specs.Walk.{Walked}
+use Rattle.places.specs.declared.walk.Found.{Found}
+use Rattle.places.specs.declared.walk.Found.the-variants.{Places, Forbidden, NoRoom}
+use Rattle.places.specs.Table.{placeIn}
+use Rattle.places.specs.Walk.{seen, Within}
+
+unfoldable pub hash : Place → ℕ
+hash (Pair p n) = (p / 4 % 65536 + n / 4 % 65536 * 37) % 16384
+hash (Held p) = (p / 4 % 65536 + 4099) % 16384
+
+-- one more than the number of the last place with hash h among the first n; 0 where there is none
+unfoldable pub last : List ℕ → ℕ → ℕ → ℕ
+last bytes zero h = 0
+last bytes (suc n) h = pick (eqb (hash (placeIn bytes n)) h) (suc n) (last bytes n h)
+
+-- heads leads to the last place of each hash, links from a place to the one before it with the same hash
+pub record Indexed (bytes : List ℕ) (n : ℕ) (heads links : List ℕ) : Type 0 where
+  pub head-room : length heads ≡ 16384
+  pub link-room : length links ≡ 8192
+  pub head : (h : ℕ) → h < 16384 → getD heads h 0 ≡ last bytes n h
+  pub link : (i : ℕ) → i < n → getD links i 0 ≡ last bytes i (hash (placeIn bytes i))
+
+unfoldable pub IndexedBy : Found → List ℕ → List ℕ → List ℕ → Type 0
+IndexedBy (Places n) bytes heads links = Indexed bytes n heads links
+IndexedBy (Forbidden a) bytes heads links = Unit {0}
+IndexedBy (NoRoom a) bytes heads links = Unit {0}
+
+-- an answer reads as a walk of the definitions, its places fit the room, and the index fits its table
+pub record Known (room : ℕ) (w : Walked) (r : Found) (bytes heads links : List ℕ) : Type 0 where
+  pub reads : seen r bytes ≡ w
+  pub fits : Within room r
+  pub index : IndexedBy r bytes heads links

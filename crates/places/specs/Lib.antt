@@ -1,0 +1,4 @@
+pub mod Named
+pub mod Table
+pub mod Walk
+pub mod Index

@@ -1,0 +1,30 @@
+-- What the code's walk answers, read with the table that it left.
+use Prim.Native.Nat.{ℕ, _≤_}
+use mathlib.Core.List.{List}
+use Rattle.model.specs.declared.Place.{Place}
+use Rattle.model.specs.Places.{allowed}
+use Rattle.model.specs.Walk.{Walked, table, refused, endless, tested}
+use Rattle.places.specs.declared.walk.Found.{Found}
+use Rattle.places.specs.declared.walk.Found.the-variants.{Places, Forbidden, NoRoom}
+use Rattle.places.specs.Table.{placesIn}
+
+unfoldable pub seen : Found → List ℕ → Walked
+seen (Places n) bytes = table (placesIn bytes n)
+seen (Forbidden a) bytes = refused 4 a
+seen (NoRoom a) bytes = refused 5 a
+
+-- goes on with the places, if the walk has not ended
+unfoldable pub onward : (List Place → Walked) → Walked → Walked
+onward rest (table ps) = rest ps
+onward rest (refused n a) = refused n a
+onward rest endless = endless
+
+-- a place handled, with nothing after it
+unfoldable pub handled : List ℕ → ℕ → ℕ → List Place → Place → Walked
+handled image base cap ps x = tested image base table cap ps x (allowed image base x)
+
+-- the places that an answer counts fit the room
+unfoldable pub Within : ℕ → Found → Type 0
+Within room (Places n) = n ≤ room
+Within room (Forbidden a) = Unit {0}
+Within room (NoRoom a) = Unit {0}
