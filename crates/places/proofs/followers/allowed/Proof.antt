@@ -4,11 +4,6 @@ use Rattle.places.specs.Named.{wordOf}
 use borrow.Author.Needs.{needs}
 use Rattle.places.proofs.followers.allowed.Statement.{statement}
 use Rattle.places.proofs.followers.allowed.Tie as tie
-use Rattle.places.proofs.followers.allowed.Reads as reads
-use Rattle.places.proofs.followers.allowed.Lts as lts
-use Rattle.places.proofs.followers.fetch.Reads as fetch-reads
-use Rattle.places.proofs.followers.may_be_held.Reads as may-be-held-reads
-use Rattle.words.proofs.read_instruction.Reads as read-instruction-reads
 
 enum-known-x : tie.Need-enum-known-x
 enum-known-x c = search needs

@@ -4,10 +4,6 @@ use borrow.Author.Tests.{eq-eqb, ne-eqb}
 use borrow.Author.Needs.{needs}
 use Rattle.places.proofs.followers.branch_names.Statement.{statement}
 use Rattle.places.proofs.followers.branch_names.Tie as tie
-use Rattle.places.proofs.followers.branch_names.Reads as reads
-use Rattle.places.proofs.followers.branch_names.Lts as lts
-use Rattle.numbers.proofs.add.Reads as add-reads
-use Rattle.places.proofs.followers.plain.Reads as plain-reads
 
 add-requires : tie.Need-add-requires
 add-requires c κs = search needs

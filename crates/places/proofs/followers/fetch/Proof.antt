@@ -4,10 +4,6 @@ use borrow.Author.Tests.{le-leb, lt-leb}
 use borrow.Author.Needs.{needs}
 use Rattle.places.proofs.followers.fetch.Statement.{statement}
 use Rattle.places.proofs.followers.fetch.Tie as tie
-use Rattle.places.proofs.followers.fetch.Reads as reads
-use Rattle.places.proofs.followers.fetch.Lts as lts
-use Rattle.numbers.proofs.read_number.Reads as read-number-reads
-use Rattle.numbers.proofs.subtract.Reads as subtract-reads
 
 subtract-requires : tie.Need-subtract-requires
 subtract-requires c κs = search needs

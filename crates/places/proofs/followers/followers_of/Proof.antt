@@ -4,11 +4,6 @@ use Rattle.places.specs.Named.{wordOf, named}
 use borrow.Author.Needs.{needs}
 use Rattle.places.proofs.followers.followers_of.Statement.{statement}
 use Rattle.places.proofs.followers.followers_of.Tie as tie
-use Rattle.places.proofs.followers.followers_of.Reads as reads
-use Rattle.places.proofs.followers.followers_of.Lts as lts
-use Rattle.places.proofs.followers.fetch.Reads as fetch-reads
-use Rattle.places.proofs.followers.names.Reads as names-reads
-use Rattle.words.proofs.read_instruction.Reads as read-instruction-reads
 
 enum-known-x : tie.Need-enum-known-x
 enum-known-x c = search needs

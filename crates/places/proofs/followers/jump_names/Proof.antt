@@ -4,10 +4,6 @@ use borrow.Author.Tests.{eq-eqb, ne-eqb}
 use borrow.Author.Needs.{needs}
 use Rattle.places.proofs.followers.jump_names.Statement.{statement}
 use Rattle.places.proofs.followers.jump_names.Tie as tie
-use Rattle.places.proofs.followers.jump_names.Reads as reads
-use Rattle.places.proofs.followers.jump_names.Lts as lts
-use Rattle.numbers.proofs.add.Reads as add-reads
-use Rattle.places.proofs.followers.plain.Reads as plain-reads
 
 returns : tie.Need-returns
 unfolding named names

@@ -6,8 +6,6 @@ use mathlib.Core.Path.{sym}
 use borrow.Author.Needs.{needs}
 use Rattle.places.proofs.followers.may_be_held.Statement.{statement}
 use Rattle.places.proofs.followers.may_be_held.Tie as tie
-use Rattle.places.proofs.followers.may_be_held.Reads as reads
-use Rattle.places.proofs.followers.may_be_held.Lts as lts
 
 enum-known-i : tie.Need-enum-known-i
 enum-known-i c = search needs

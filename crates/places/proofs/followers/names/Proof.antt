@@ -6,14 +6,6 @@ use Rattle.places.specs.Named.{named}
 use borrow.Author.Needs.{needs}
 use Rattle.places.proofs.followers.names.Statement.{statement}
 use Rattle.places.proofs.followers.names.Tie as tie
-use Rattle.places.proofs.followers.names.Reads as reads
-use Rattle.places.proofs.followers.names.Lts as lts
-use Rattle.numbers.proofs.add.Reads as add-reads
-use Rattle.places.proofs.followers.branch_names.Reads as branch-names-reads
-use Rattle.places.proofs.followers.jump_names.Reads as jump-names-reads
-use Rattle.places.proofs.followers.plain.Reads as plain-reads
-use Rattle.places.proofs.followers.target.Reads as target-reads
-use Rattle.places.proofs.followers.trap_names.Reads as trap-names-reads
 
 enum-told : tie.Need-enum-told
 enum-told c = search needs

@@ -4,9 +4,6 @@ use borrow.Author.Tests.{eq-eqb, ne-eqb}
 use borrow.Author.Needs.{needs}
 use Rattle.places.proofs.followers.trap_names.Statement.{statement}
 use Rattle.places.proofs.followers.trap_names.Tie as tie
-use Rattle.places.proofs.followers.trap_names.Reads as reads
-use Rattle.places.proofs.followers.trap_names.Lts as lts
-use Rattle.places.proofs.followers.plain.Reads as plain-reads
 
 returns : tie.Need-returns
 unfolding named names

@@ -4,9 +4,6 @@ use native.Mathlib.Omega.{arith}
 use borrow.Author.Needs.{needs}
 use Rattle.places.proofs.index.enter.Statement.{statement}
 use Rattle.places.proofs.index.enter.Tie as tie
-use Rattle.places.proofs.index.enter.Reads as reads
-use Rattle.places.proofs.index.enter.Lts as lts
-use Rattle.places.proofs.index.hash.Reads as hash-reads
 
 hash-requires : tie.Need-hash-requires
 hash-requires c κs = search needs

@@ -8,12 +8,6 @@ use mathlib.Core.Path.{_≡_}
 use Prim.Native.Nat.{_-_}
 use Rattle.places.proofs.index.find.Statement.{statement}
 use Rattle.places.proofs.index.find.Tie as tie
-use Rattle.places.proofs.index.find.Reads as reads
-use Rattle.places.proofs.index.find.Lts as lts
-use Rattle.places.proofs.index.better.Reads as better-reads
-use Rattle.places.proofs.index.hash.Reads as hash-reads
-use Rattle.places.proofs.table.read_place.Reads as read-place-reads
-use Rattle.places.proofs.table.same_place.Reads as same-place-reads
 
 abbrev Inv-loop : tie.InvT-loop
 Inv-loop places heads links count x best₀ j₀ best j = Seeking x places count best j

@@ -3,8 +3,6 @@ use Rattle.places.specs.Index.{hash}
 use borrow.Author.Needs.{needs}
 use Rattle.places.proofs.index.hash.Statement.{statement}
 use Rattle.places.proofs.index.hash.Tie as tie
-use Rattle.places.proofs.index.hash.Reads as reads
-use Rattle.places.proofs.index.hash.Lts as lts
 
 enum-known-x : tie.Need-enum-known-x
 enum-known-x c = search needs

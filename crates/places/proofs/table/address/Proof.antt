@@ -3,8 +3,6 @@ use Rattle.model.specs.Places.{placeAt}
 use borrow.Author.Needs.{needs}
 use Rattle.places.proofs.table.address.Statement.{statement}
 use Rattle.places.proofs.table.address.Tie as tie
-use Rattle.places.proofs.table.address.Reads as reads
-use Rattle.places.proofs.table.address.Lts as lts
 
 enum-known-x : tie.Need-enum-known-x
 enum-known-x c = search needs

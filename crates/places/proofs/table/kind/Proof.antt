@@ -4,9 +4,6 @@ use borrow.Author.Tests.{eq-eqb, ne-eqb}
 use borrow.Author.Needs.{needs}
 use Rattle.places.proofs.table.kind.Statement.{statement}
 use Rattle.places.proofs.table.kind.Tie as tie
-use Rattle.places.proofs.table.kind.Reads as reads
-use Rattle.places.proofs.table.kind.Lts as lts
-use Rattle.numbers.proofs.add.Reads as add-reads
 
 enum-known-x : tie.Need-enum-known-x
 enum-known-x c = search needs

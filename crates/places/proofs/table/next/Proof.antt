@@ -3,8 +3,6 @@ use Rattle.model.specs.Places.{nextOf}
 use borrow.Author.Needs.{needs}
 use Rattle.places.proofs.table.next.Statement.{statement}
 use Rattle.places.proofs.table.next.Tie as tie
-use Rattle.places.proofs.table.next.Reads as reads
-use Rattle.places.proofs.table.next.Lts as lts
 
 enum-known-x : tie.Need-enum-known-x
 enum-known-x c = search needs

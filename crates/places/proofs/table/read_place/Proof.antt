@@ -3,9 +3,6 @@ use borrow.Author.Tests.{eq-eqb, ne-eqb}
 use borrow.Author.Needs.{needs}
 use Rattle.places.proofs.table.read_place.Statement.{statement}
 use Rattle.places.proofs.table.read_place.Tie as tie
-use Rattle.places.proofs.table.read_place.Reads as reads
-use Rattle.places.proofs.table.read_place.Lts as lts
-use Rattle.numbers.proofs.read_number.Reads as read-number-reads
 
 mul-at : tie.Need-mul-at
 mul-at c = search needs

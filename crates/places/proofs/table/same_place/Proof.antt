@@ -4,8 +4,6 @@ use borrow.Author.Tests.{eq-eqb, ne-eqb}
 use borrow.Author.Needs.{needs}
 use Rattle.places.proofs.table.same_place.Statement.{statement}
 use Rattle.places.proofs.table.same_place.Tie as tie
-use Rattle.places.proofs.table.same_place.Reads as reads
-use Rattle.places.proofs.table.same_place.Lts as lts
 
 enum-known-x : tie.Need-enum-known-x
 enum-known-x c = search needs

@@ -4,12 +4,6 @@ use Rattle.places.specs.Table.{putRow}
 use borrow.Author.Needs.{needs}
 use Rattle.places.proofs.table.write_row.Statement.{statement}
 use Rattle.places.proofs.table.write_row.Tie as tie
-use Rattle.places.proofs.table.write_row.Reads as reads
-use Rattle.places.proofs.table.write_row.Lts as lts
-use Rattle.numbers.proofs.write_number.Reads as write-number-reads
-use Rattle.places.proofs.table.address.Reads as address-reads
-use Rattle.places.proofs.table.kind.Reads as kind-reads
-use Rattle.places.proofs.table.next.Reads as next-reads
 
 mul-at : tie.Need-mul-at
 mul-at c = search needs

@@ -6,12 +6,6 @@ use native.Mathlib.Omega.{arith}
 use borrow.Author.Needs.{needs}
 use Rattle.places.proofs.walk.add_place.Statement.{statement}
 use Rattle.places.proofs.walk.add_place.Tie as tie
-use Rattle.places.proofs.walk.add_place.Reads as reads
-use Rattle.places.proofs.walk.add_place.Lts as lts
-use Rattle.places.proofs.index.enter.Reads as enter-reads
-use Rattle.places.proofs.index.find.Reads as find-reads
-use Rattle.places.proofs.table.address.Reads as address-reads
-use Rattle.places.proofs.table.write_row.Reads as write-row-reads
 
 find-requires : tie.Need-find-requires
 find-requires c κs = search needs

@@ -6,10 +6,6 @@ use mathlib.Core.Path.{sym, _∙_}
 use borrow.Author.Needs.{needs}
 use Rattle.places.proofs.walk.find_places.Statement.{statement}
 use Rattle.places.proofs.walk.find_places.Tie as tie
-use Rattle.places.proofs.walk.find_places.Reads as reads
-use Rattle.places.proofs.walk.find_places.Lts as lts
-use Rattle.places.proofs.walk.start.Reads as start-reads
-use Rattle.places.proofs.walk.walk.Reads as walk-reads
 
 start-requires : tie.Need-start-requires
 start-requires c κs = search needs

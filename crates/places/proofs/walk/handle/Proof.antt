@@ -7,14 +7,6 @@ use mathlib.Core.Path.{sym, _∙_}
 use borrow.Author.Needs.{needs}
 use Rattle.places.proofs.walk.handle.Statement.{statement}
 use Rattle.places.proofs.walk.handle.Tie as tie
-use Rattle.places.proofs.walk.handle.Reads as reads
-use Rattle.places.proofs.walk.handle.Lts as lts
-use Rattle.places.proofs.followers.allowed.Reads as allowed-reads
-use Rattle.places.proofs.followers.followers_of.Reads as followers-of-reads
-use Rattle.places.proofs.table.address.Reads as address-reads
-use Rattle.places.proofs.table.read_place.Reads as read-place-reads
-use Rattle.places.proofs.walk.add_place.Reads as add-place-reads
-use Rattle.places.proofs.walk.then_add.Reads as then-add-reads
 
 read-place-requires : tie.Need-read-place-requires
 read-place-requires c κs = search needs

@@ -13,11 +13,6 @@ use mathlib.Core.Path.{_≡_, refl, sym, _∙_}
 use Prim.Native.Nat.{_-_, _≤_}
 use Rattle.places.proofs.walk.start.Statement.{statement}
 use Rattle.places.proofs.walk.start.Tie as tie
-use Rattle.places.proofs.walk.start.Reads as reads
-use Rattle.places.proofs.walk.start.Lts as lts
-use Rattle.numbers.proofs.read_number.Reads as read-number-reads
-use Rattle.places.proofs.followers.plain.Reads as plain-reads
-use Rattle.places.proofs.walk.add_place.Reads as add-place-reads
 
 abbrev Inv-loop : tie.InvT-loop
 Inv-loop entries k places₀ heads₀ links₀ room n₀ j₀ places heads links n j =

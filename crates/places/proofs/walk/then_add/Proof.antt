@@ -4,9 +4,6 @@ use mathlib.Core.Path.{sym}
 use borrow.Author.Needs.{needs}
 use Rattle.places.proofs.walk.then_add.Statement.{statement}
 use Rattle.places.proofs.walk.then_add.Tie as tie
-use Rattle.places.proofs.walk.then_add.Reads as reads
-use Rattle.places.proofs.walk.then_add.Lts as lts
-use Rattle.places.proofs.walk.add_place.Reads as add-place-reads
 
 enum-known-w : tie.Need-enum-known-w
 enum-known-w c = search needs

@@ -11,9 +11,6 @@ use mathlib.Core.Path.{_≡_, refl, sym, _∙_}
 use Prim.Native.Nat.{suc, _-_, _≤_}
 use Rattle.places.proofs.walk.walk.Statement.{statement}
 use Rattle.places.proofs.walk.walk.Tie as tie
-use Rattle.places.proofs.walk.walk.Reads as reads
-use Rattle.places.proofs.walk.walk.Lts as lts
-use Rattle.places.proofs.walk.handle.Reads as handle-reads
 
 abbrev Inv-loop : tie.InvT-loop
 Inv-loop image base places₀ heads₀ links₀ count room n₀ i₀ places heads links n i =

@@ -1,0 +1,132 @@
+-- Laws of the layout: how many records there are, the table's numbers, the first record of a place.
+use native.Mathlib.Nat.{zero-add}
+use Rattle.numbers.proofs.Lists.{get-up, drop-up, drop-all-up}
+use Rattle.numbers.specs.Number.{numberAt, numbersOf}
+use Rattle.numbers.specs.Choice.{pick}
+use Rattle.model.specs.declared.Place.{Place}
+use Rattle.model.specs.Places.{kindOf, nextOf, placeAt, samePlace}
+use Rattle.places.proofs.Rows.{length-places, places-same, place-kept, row-put}
+use borrow.Author.Tests.{ltb-true, ltb-false}
+use lib.ListN.{length, getD, drop}
+use lib.Dec.{ltb}
+use native.Mathlib.Numerals.{add-one}
+use native.Mathlib.Omega.{arith}
+use mathlib.Core.List.{List, [], _∷_, _++_, append-nil, append-assoc}
+use mathlib.Core.Bool.{Bool, true, false}
+use mathlib.Core.Path.{_≡_, refl, sym, ap, _∙_}
+use Prim.Native.Nat.{ℕ, suc, _+_, _*_, _^_, _≤_, _<_}
+use Rattle.model.specs.Records.{Group, one, two, group, past, first, rowsFrom, tableNumbers}
+use Rattle.places.specs.Table.{placeIn, placesIn, putRow, numberOf, Fits}
+use Rattle.translator.specs.Layout.{needed, firstIn, Laid}
+
+-- a group has one record or two
+pub past-le : (g : Group Place) (n : ℕ) → past g n ≤ n + 2
+unfolding past
+past-le (one r) n = omega arith
+past-le (two r s) n = omega arith
+
+pub past-add : (g : Group Place) (a b : ℕ) → past g a + b ≡ a + past g b
+unfolding past
+past-add (one r) a b = omega arith
+past-add (two r s) a b = omega arith
+
+module _ (image : List ℕ) (base : ℕ) where
+  pub needed-le : (ps : List Place) → needed image base ps ≤ 2 * length ps
+  unfolding needed
+  needed-le [] = omega arith
+  needed-le (y ∷ ys) = omega (arith, past-le (group image base y) (needed image base ys), needed-le ys)
+
+  -- what is left after a place, with its group
+  module _ {x : Place} {ps qs : List Place} {g : Group Place} (c : ps ≡ x ∷ qs) (e : g ≡ group image base x) where
+    pub needed-turn : (n all : ℕ) → n + needed image base ps ≡ all → past g n + needed image base qs ≡ all
+    unfolding needed
+    needed-turn n all h = past-add g n (needed image base qs) ∙ (rw (c, ← e) at h)
+
+    pub rows-turn : (n : ℕ) → tableNumbers (rowsFrom image base n ps)
+        ≡ (placeAt x ∷ nextOf x ∷ kindOf x ∷ n ∷ []) ++ tableNumbers (rowsFrom image base (past g n) qs)
+    unfolding rowsFrom tableNumbers
+    rows-turn n = rw (c, e)
+
+-- the places of a table from row i on
+pub next-place : (l : List ℕ) (n i : ℕ) {x : Place} → x ≡ placeIn l i → i < n → drop i (placesIn l n) ≡ x ∷ drop (i + 1) (placesIn l n)
+unfolding placesIn
+next-place l n i e h = rw (add-one i, e) (drop-up (placeIn l) n i h)
+
+pub no-place : (l : List ℕ) (n i : ℕ) → n ≤ i → drop i (placesIn l n) ≡ []
+unfolding placesIn
+no-place l n i h = drop-all-up (placeIn l) n i h
+
+-- a turn of the layout, and its end
+module _ (image : List ℕ) (base : ℕ) (l l0 : List ℕ) (count i n : ℕ) (same : (j : ℕ) → placeIn l j ≡ placeIn l0 j) where
+  pub lay-turn : {x : Place} {g : Group Place} {all : ℕ} {R : List ℕ} → i < count → x ≡ placeIn l i → g ≡ group image base x → Fits x
+      → 16 * i + 16 ≤ length l → n < 2 ^ 32 → n + needed image base (drop i (placesIn l0 count)) ≡ all
+      → numbersOf l (4 * i) ++ tableNumbers (rowsFrom image base n (drop i (placesIn l0 count))) ≡ R
+      → ((j : ℕ) → placeIn (putRow l i x n) j ≡ placeIn l0 j)
+      × (past g n + needed image base (drop (i + 1) (placesIn l0 count)) ≡ all)
+      × (numbersOf (putRow l i x n) (4 * (i + 1)) ++ tableNumbers (rowsFrom image base (past g n) (drop (i + 1) (placesIn l0 count))) ≡ R)
+  lay-turn {x} {g} {all} {R} h ex eg f room b ea er =
+      let c : drop i (placesIn l0 count) ≡ x ∷ drop (i + 1) (placesIn l0 count) = next-place l0 count i (ex ∙ same i) h in (
+        λ j. place-kept l i x n j room f ex ∙ same j,
+        needed-turn image base c eg n all ea,
+        rw (row-put l i x n room f b) (rw append-assoc (rw (rows-turn image base c eg n) at er)),
+      )
+
+  pub lay-end : i ≤ count → count ≤ i → n + needed image base (drop i (placesIn l0 count)) ≡ needed image base (placesIn l0 count)
+      → numbersOf l (4 * i) ++ tableNumbers (rowsFrom image base n (drop i (placesIn l0 count))) ≡ tableNumbers (rowsFrom image base 0 (placesIn l0 count))
+      → Laid image base (placesIn l0 count) count l n
+  unfolding needed rowsFrom tableNumbers
+  lay-end h k ea er =
+      let e : i ≡ count = omega arith in
+      let d : drop i (placesIn l0 count) ≡ [] = no-place l0 count i k in
+      record {
+        all = omega (arith, rw d at ea);
+        kept = places-same l l0 count (λ j m. same j);
+        numbers = sym (append-nil (numbersOf l (4 * count))) ∙ (rw (d, e) at er);
+      }
+
+-- the first record of a place that is in the list stands in its row; of another it is the number of all records
+module _ (image : List ℕ) (base : ℕ) (x : Place) where
+  first-there : (n : ℕ) (ps : List Place) → numberOf x ps < length ps
+      → n + first image base ps x ≡ getD (tableNumbers (rowsFrom image base n ps)) (4 * numberOf x ps + 3) 0
+  unfolding first numberOf rowsFrom tableNumbers
+  first-there n [] h = absurd (omega arith)
+  first-there n (y ∷ ys) h = go (first-there (past (group image base y) n) ys) (samePlace y x) h
+    where
+      go : (numberOf x ys < length ys
+          → past (group image base y) n + first image base ys x ≡ getD (tableNumbers (rowsFrom image base (past (group image base y) n) ys)) (4 * numberOf x ys + 3) 0)
+          → (b : Bool) → pick b 0 (suc (numberOf x ys)) < suc (length ys)
+          → n + pick b 0 (past (group image base y) (first image base ys x))
+          ≡ getD (placeAt y ∷ nextOf y ∷ kindOf y ∷ n ∷ tableNumbers (rowsFrom image base (past (group image base y) n) ys)) (4 * pick b 0 (suc (numberOf x ys)) + 3) 0
+      go r true k = omega arith
+      go r false k =
+          let e : 4 * suc (numberOf x ys) + 3 ≡ suc (suc (suc (suc (4 * numberOf x ys + 3)))) = omega arith in
+          rw e (sym (past-add (group image base y) n (first image base ys x)) ∙ r (omega arith))
+
+  first-absent : (ps : List Place) → length ps ≤ numberOf x ps → first image base ps x ≡ needed image base ps
+  unfolding first numberOf needed
+  first-absent [] h = refl
+  first-absent (y ∷ ys) h = go (first-absent ys) (samePlace y x) h
+    where
+      go : (length ys ≤ numberOf x ys → first image base ys x ≡ needed image base ys) → (b : Bool) → suc (length ys) ≤ pick b 0 (suc (numberOf x ys))
+          → pick b 0 (past (group image base y) (first image base ys x)) ≡ past (group image base y) (needed image base ys)
+      go r true k = absurd (omega arith)
+      go r false k = rw (r (omega arith))
+
+number-of : (l : List ℕ) (n i : ℕ) → i < n → getD (numbersOf l n) i 0 ≡ numberAt l (4 * i)
+unfolding numbersOf
+number-of l n i h = get-up (λ i. numberAt l (4 * i)) n i 0 h
+
+pub first-laid : (image : List ℕ) (base : ℕ) (ps : List Place) (count : ℕ) (l : List ℕ) (r : ℕ) → Laid image base ps count l r → (x : Place)
+    → firstIn l count r x ≡ first image base ps x
+unfolding firstIn
+first-laid image base ps count l r d x = rw (d .kept) (go (ltb (numberOf x ps) count) refl)
+  where
+    size : length ps ≡ count
+    size = ap length (sym (d .kept)) ∙ length-places l count
+
+    go : (b : Bool) → ltb (numberOf x ps) count ≡ b → pick b (numberAt l (16 * numberOf x ps + 12)) r ≡ first image base ps x
+    go true e =
+        let h : numberOf x ps < count = ltb-true (numberOf x ps) count e in
+        let k : 16 * numberOf x ps + 12 ≡ 4 * (4 * numberOf x ps + 3) = omega arith in
+        rw k (sym (number-of l (4 * count) (4 * numberOf x ps + 3) (omega arith)) ∙ rw (d .numbers) (sym (first-there image base x 0 ps (omega (arith, size))) ∙ zero-add (first image base ps x)))
+    go false e = d .all ∙ sym (first-absent image base x ps (omega (arith, size, ltb-false (numberOf x ps) count e)))

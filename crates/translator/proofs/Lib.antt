@@ -1,0 +1,5 @@
+pub mod Wording
+pub mod Laying
+pub mod Putting
+pub mod Checking
+pub mod Handed

@@ -1,0 +1,130 @@
+-- Laws of the records' numbers, and of their turns.
+use Rattle.numbers.proofs.Number.{length-put}
+use Rattle.numbers.proofs.Areas.{numbers-put}
+use Rattle.numbers.specs.Number.{putNumber, numbersOf}
+use Rattle.model.specs.declared.Place.{Place}
+use Rattle.translator.proofs.Laying.{next-place, no-place, needed-turn}
+use Rattle.translator.specs.Layout.{needed}
+use lib.ListN.{length, drop}
+use native.Mathlib.Numerals.{add-one}
+use native.Mathlib.Omega.{arith}
+use mathlib.Core.List.{List, [], _∷_, _++_, append-nil, append-assoc}
+use mathlib.Core.Path.{_≡_, refl, sym, ap, _∙_, fun-ext}
+use Prim.Native.Nat.{ℕ, suc, _+_, _*_, _^_, _≤_, _<_}
+use Rattle.model.specs.Records.{Rec, doWord, link, hold, goIf, goTo, goHeld, stop, unknown, Group, one, two, group, past, numbered, put, recordsFrom, recordNumbers, recordsNumbers}
+use Rattle.places.specs.Table.{placeIn, placesIn}
+use Rattle.translator.specs.Groups.{recOf, groupFrom}
+use Rattle.translator.specs.declared.groups.Record.{Record}
+use Rattle.translator.specs.declared.groups.Group.the-variants.{One, Two}
+use Rattle.translator.specs.declared.groups as code
+
+-- three numbers put in a row
+pub record-put : (l : List ℕ) (at a b c : ℕ) → 12 * at + 12 ≤ length l → a < 2 ^ 32 → b < 2 ^ 32 → c < 2 ^ 32
+    → numbersOf (putNumber (putNumber (putNumber l (12 * at) a) (12 * at + 4) b) (12 * at + 8) c) (3 * at + 3)
+    ≡ numbersOf l (3 * at) ++ (a ∷ b ∷ c ∷ [])
+record-put l at a b c h ha hb hc =
+    let n = 3 * at in
+    let l1 = putNumber l (4 * n) a in
+    let l2 = putNumber l1 (4 * (n + 1)) b in
+    let k0 : 12 * at ≡ 4 * n = omega arith in
+    let k1 : 12 * at + 4 ≡ 4 * (n + 1) = omega arith in
+    let k2 : 12 * at + 8 ≡ 4 * (n + 1 + 1) = omega arith in
+    let k3 : 3 * at + 3 ≡ n + 1 + 1 + 1 = omega arith in
+    rw (
+      k1,
+      k2,
+      k0,
+      k3,
+      numbers-put l2 (n + 1 + 1) c (simp length-put (omega arith)) hc,
+      numbers-put l1 (n + 1) b (simp length-put (omega arith)) hb,
+      numbers-put l n a (omega arith) ha,
+    )
+    (simp append-assoc)
+
+-- the numbers of a record, before those of others
+record-append : (r : Rec ℕ) (l : List ℕ) → recordNumbers r l ≡ recordNumbers r [] ++ l
+unfolding recordNumbers
+record-append (doWord w) l = refl
+record-append (link p) l = refl
+record-append (hold w p) l = refl
+record-append (goIf c r) l = refl
+record-append (goTo r) l = refl
+record-append goHeld l = refl
+record-append (stop e p) l = refl
+record-append unknown l = refl
+
+put-append : (f : Place → ℕ) (g : Group Place) (rest : List (Rec ℕ))
+    → recordsNumbers (put f g rest) ≡ recordsNumbers (put f g []) ++ recordsNumbers rest
+unfolding put recordsNumbers
+put-append f (one r) rest = record-append (numbered f r) (recordsNumbers rest)
+put-append f (two r s) rest =
+    record-append (numbered f r) (recordNumbers (numbered f s) (recordsNumbers rest))
+    ∙ rw (record-append (numbered f s) (recordsNumbers rest), record-append (numbered f r) (recordNumbers (numbered f s) [])) (simp append-assoc)
+
+-- a group put, of one record or of two, from the numbers that each record's put left
+module _ (f : Place → ℕ) (at : ℕ) (l0 l1 : List ℕ) {g : code.Group.Group} where
+  pub put-one : {r : Record} {v : List ℕ} → g ≡ One r → v ≡ recordNumbers (numbered f (recOf r)) []
+      → numbersOf l1 (3 * at + 3) ≡ numbersOf l0 (3 * at) ++ v
+      → numbersOf l1 (3 * past (groupFrom g) at) ≡ numbersOf l0 (3 * at) ++ recordsNumbers (put f (groupFrom g) [])
+  unfolding groupFrom past put recordsNumbers
+  put-one e ev h = let k : 3 * suc at ≡ 3 * at + 3 = omega arith in rw (e, k, ← ev) h
+
+  pub put-two : (l2 : List ℕ) {r s : Record} {v w : List ℕ} → g ≡ Two r s → v ≡ recordNumbers (numbered f (recOf r)) []
+      → w ≡ recordNumbers (numbered f (recOf s)) [] → numbersOf l1 (3 * at + 3) ≡ numbersOf l0 (3 * at) ++ v
+      → numbersOf l2 (3 * (at + 1) + 3) ≡ numbersOf l1 (3 * (at + 1)) ++ w
+      → numbersOf l2 (3 * past (groupFrom g) at) ≡ numbersOf l0 (3 * at) ++ recordsNumbers (put f (groupFrom g) [])
+  unfolding groupFrom past put recordsNumbers
+  put-two l2 {r} {s} {v} {w} e ev ew h i =
+      let k : 3 * suc (suc at) ≡ 3 * (at + 1) + 3 = omega arith in
+      let m : 3 * (at + 1) ≡ 3 * at + 3 = omega arith in
+      rw (e, k) (i ∙ rw (m, h, ev, ew, append-assoc (numbersOf l0 (3 * at)) (recordNumbers (numbered f (recOf r)) []) (recordNumbers (numbered f (recOf s)) []))
+      (ap (λ (t : List ℕ). numbersOf l0 (3 * at) ++ t) (sym (record-append (numbered f (recOf r)) (recordNumbers (numbered f (recOf s)) [])))))
+
+-- how far a group reaches
+pub past-one : {g : code.Group.Group} {r : Record} (at : ℕ) → g ≡ One r → past (groupFrom g) at ≡ at + 1
+unfolding groupFrom past
+past-one at e = rw e (sym (add-one at))
+
+pub past-two : {g : code.Group.Group} {r s : Record} (at : ℕ) → g ≡ Two r s → past (groupFrom g) at ≡ at + 2
+unfolding groupFrom past
+past-two at e = rw e (omega arith)
+
+-- a turn over the places, and its end
+module _ (image : List ℕ) (base : ℕ) (places : List ℕ) (count i at : ℕ) (f : Place → ℕ) where
+  pub put-turn : {x : Place} {g : Group Place} {all : ℕ} {R : List ℕ} (r r′ : List ℕ) → i < count → x ≡ placeIn places i → g ≡ group image base x
+      → at + needed image base (drop i (placesIn places count)) ≡ all
+      → numbersOf r (3 * at) ++ recordsNumbers (recordsFrom image base f (drop i (placesIn places count))) ≡ R
+      → numbersOf r′ (3 * past g at) ≡ numbersOf r (3 * at) ++ recordsNumbers (put f g [])
+      → (past g at + needed image base (drop (i + 1) (placesIn places count)) ≡ all)
+      × (numbersOf r′ (3 * past g at) ++ recordsNumbers (recordsFrom image base f (drop (i + 1) (placesIn places count))) ≡ R)
+  unfolding recordsFrom
+  put-turn {x} {g} {all} {R} r r′ h ex eg ea er ep =
+      let c = next-place places count i ex h in
+      let t : recordsNumbers (recordsFrom image base f (drop i (placesIn places count)))
+      ≡ recordsNumbers (put f g []) ++ recordsNumbers (recordsFrom image base f (drop (i + 1) (placesIn places count))) =
+      rw (c, ← eg) (put-append f g (recordsFrom image base f (drop (i + 1) (placesIn places count)))) in
+      (needed-turn image base c eg at all ea, rw ep (rw append-assoc (rw t at er)))
+
+  pub put-end : {all : ℕ} (r : List ℕ) → count ≤ i → at + needed image base (drop i (placesIn places count)) ≡ all
+      → numbersOf r (3 * at) ++ recordsNumbers (recordsFrom image base f (drop i (placesIn places count))) ≡ recordsNumbers (recordsFrom image base f (placesIn places count))
+      → numbersOf r (3 * all) ≡ recordsNumbers (recordsFrom image base f (placesIn places count))
+  unfolding recordsFrom recordsNumbers needed
+  put-end {all} r k ea er =
+      let d : drop i (placesIn places count) ≡ [] = no-place places count i k in
+      let e : all ≡ at = omega (arith, rw d at ea) in
+      rw e (sym (append-nil (numbersOf r (3 * at))) ∙ (rw d at er))
+
+-- the records depend on the first record of each place, and are as many as are needed
+put-length : (f : Place → ℕ) (g : Group Place) (rest : List (Rec ℕ)) → length (put f g rest) ≡ past g (length rest)
+unfolding put past
+put-length f (one r) rest = refl
+put-length f (two r s) rest = refl
+
+module _ (image : List ℕ) (base : ℕ) where
+  pub records-same : {f h : Place → ℕ} (ps : List Place) → ((x : Place) → f x ≡ h x) → recordsFrom image base f ps ≡ recordsFrom image base h ps
+  records-same ps e = ap (λ (k : Place → ℕ). recordsFrom image base k ps) (fun-ext e)
+
+  pub records-length : (f : Place → ℕ) (ps : List Place) → length (recordsFrom image base f ps) ≡ needed image base ps
+  unfolding recordsFrom needed
+  records-length f [] = refl
+  records-length f (y ∷ ys) = put-length f (group image base y) (recordsFrom image base f ys) ∙ rw (records-length f ys)

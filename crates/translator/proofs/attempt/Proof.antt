@@ -1,0 +1,114 @@
+use Rattle.model.specs.Translation.{placeRoom}
+use Rattle.model.specs.Cases.{given}
+use Rattle.places.proofs.Chains.{index-none}
+use Rattle.places.proofs.Worklist.{within-places, indexed-places}
+use Rattle.translator.proofs.Checking.{good-count, tr-length, tr-base, tr-count, tr-entry, tr-walk}
+use Rattle.translator.proofs.Handed.{attempted-by, ends-places, refused-as, ends-forbidden, ends-full}
+use Rattle.translator.specs.Handing.{placesCounted, recordsCounted}
+use native.Mathlib.Omega.{arith}
+use mathlib.Core.Path.{refl, _∙_}
+use borrow.Author.Needs.{needs}
+use Rattle.translator.proofs.attempt.Statement.{statement}
+use Rattle.translator.proofs.attempt.Tie as tie
+
+bad-length-requires : tie.Need-bad-length-requires
+bad-length-requires c κs = search needs
+
+returns : tie.Need-returns
+unfolding placesCounted recordsCounted
+returns c = attempted-by (tr-length _ _ _ _ _ (c .before .bad-length .ensures) (c .if1 .taken)) (refused-as _ _ _ _ _ _ _ _ refl refl _ refl refl)
+
+returns-2 : tie.Need-returns-2
+unfolding placesCounted recordsCounted
+returns-2 c = attempted-by (tr-base _ _ _ _ _ (c .before .before .bad-length .ensures) (c .before .if1 .left) (c .if2 .taken)) (refused-as _ _ _ _ _ _ _ _ refl refl _ refl refl)
+
+bad-count-requires : tie.Need-bad-count-requires
+bad-count-requires c κs = search needs
+
+returns-3 : tie.Need-returns-3
+unfolding placesCounted recordsCounted
+returns-3 c = attempted-by (tr-count _ _ _ _ _ (c .before .before .before .before .bad-length .ensures) (c .before .before .before .if1 .left) (c .before .before .if2 .left) (c .before .bad-count .ensures) (c .if3 .taken)) (refused-as _ _ _ _ _ _ _ _ refl refl _ refl refl)
+
+bad-position-requires : tie.Need-bad-position-requires
+bad-position-requires c κs = (omega arith, good-count _ (c .before .bad-count .ensures) (c .if3 .left))
+
+returns-4 : tie.Need-returns-4
+unfolding placesCounted recordsCounted
+returns-4 c = attempted-by (tr-entry _ _ _ _ _ (c .before .before .before .before .before .before .bad-length .ensures) (c .before .before .before .before .before .if1 .left) (c .before .before .before .before .if2 .left) (c .before .before .before .bad-count .ensures) (c .before .before .if3 .left) (c .before .bad-position .ensures) (c .if4 .taken)) (refused-as _ _ _ _ _ _ _ _ refl refl _ refl refl)
+
+place-room-requires : tie.Need-place-room-requires
+place-room-requires c κs = search needs
+
+find-places-requires : tie.Need-find-places-requires
+unfolding placeRoom
+find-places-requires c κs = let r = c .before .before .before .place-room .ensures in (omega arith, omega (arith, r), omega (arith, r), index-none _)
+
+enum-known-w : tie.Need-enum-known-w
+enum-known-w c = search needs
+
+finish-requires : tie.Need-finish-requires
+unfolding placeRoom
+finish-requires c κs = let e = c .before .before .before .before .before .w .given .1 in
+    let g = c .before .before .before .before .before .before .before .before .before .find-places .ensures in
+    let r = c .before .before .before .before .before .before .before .before .before .before .before .before .before .place-room .ensures in
+    let n = within-places e (g .fits) in
+    (omega (arith, n, r), omega (arith, n, r), indexed-places e (g .index))
+
+enum-known-w-2 : tie.Need-enum-known-w-2
+enum-known-w-2 c = search needs
+
+enum-known-w-3 : tie.Need-enum-known-w-3
+enum-known-w-3 c = search needs
+
+same-length : tie.Need-same-length
+same-length c = search needs
+
+same-length-2 : tie.Need-same-length-2
+same-length-2 c = search needs
+
+returns-5 : tie.Need-returns-5
+returns-5 c = attempted-by
+    (tr-walk _ _ _ _ _ (c .before .before .before .before .before .before .before .before .before .before .before .before .before .before .before .before .before .before .before .before .before .before .before .before .before .bad-length .ensures) (c .before .before .before .before .before .before .before .before .before .before .before .before .before .before .before .before .before .before .before .before .before .before .before .before .if1 .left) (c .before .before .before .before .before .before .before .before .before .before .before .before .before .before .before .before .before .before .before .before .before .before .before .if2 .left) (c .before .before .before .before .before .before .before .before .before .before .before .before .before .before .before .before .before .before .before .before .before .before .bad-count .ensures) (c .before .before .before .before .before .before .before .before .before .before .before .before .before .before .before .before .before .before .before .before .before .if3 .left) (c .before .before .before .before .before .before .before .before .before .before .before .before .before .before .before .before .before .before .before .before .bad-position .ensures) _ (c .before .before .before .before .before .before .before .before .before .before .before .before .before .before .before .before .before .before .before .if4 .left) (c .before .before .before .before .before .before .before .before .before .before .before .before .before .before .before .before .before .before .place-room .ensures) (c .before .before .before .before .before .before .before .before .before .before .before .before .before .before .find-places .ensures .reads)
+    ∙ ends-places _ _ _ _ _ _ (omega arith) (c .before .before .before .before .before .before .before .before .before .before .w .given .1))
+    (c .before .before .before .before .finish .ensures _ _)
+
+same-length-3 : tie.Need-same-length-3
+same-length-3 c = search needs
+
+returns-6 : tie.Need-returns-6
+returns-6 c = attempted-by
+    (tr-walk _ _ _ _ _ (c .before .before .before .before .before .before .before .before .before .before .before .before .before .before .before .before .bad-length .ensures) (c .before .before .before .before .before .before .before .before .before .before .before .before .before .before .before .if1 .left) (c .before .before .before .before .before .before .before .before .before .before .before .before .before .before .if2 .left) (c .before .before .before .before .before .before .before .before .before .before .before .before .before .bad-count .ensures) (c .before .before .before .before .before .before .before .before .before .before .before .before .if3 .left) (c .before .before .before .before .before .before .before .before .before .before .before .bad-position .ensures) _ (c .before .before .before .before .before .before .before .before .before .before .if4 .left) (c .before .before .before .before .before .before .before .before .before .place-room .ensures) (c .before .before .before .before .before .find-places .ensures .reads))
+    (ends-forbidden _ _ _ _ _ _ _ _ (omega arith) refl (c .before .w2 .given .1) _)
+
+same-length-4 : tie.Need-same-length-4
+same-length-4 c = search needs
+
+returns-7 : tie.Need-returns-7
+returns-7 c = attempted-by
+    (tr-walk _ _ _ _ _ (c .before .before .before .before .before .before .before .before .before .before .before .before .before .before .before .before .bad-length .ensures) (c .before .before .before .before .before .before .before .before .before .before .before .before .before .before .before .if1 .left) (c .before .before .before .before .before .before .before .before .before .before .before .before .before .before .if2 .left) (c .before .before .before .before .before .before .before .before .before .before .before .before .before .bad-count .ensures) (c .before .before .before .before .before .before .before .before .before .before .before .before .if3 .left) (c .before .before .before .before .before .before .before .before .before .before .before .bad-position .ensures) _ (c .before .before .before .before .before .before .before .before .before .before .if4 .left) (c .before .before .before .before .before .before .before .before .before .place-room .ensures) (c .before .before .before .before .before .find-places .ensures .reads))
+    (ends-full _ _ _ _ _ _ _ _ (omega arith) refl (c .before .w3 .given .1) _)
+
+pub attempt-spec : {M : Type 1} → statement M
+attempt-spec =
+    tie.close
+    (tie.spec
+    bad-length-requires
+    returns
+    returns-2
+    bad-count-requires
+    returns-3
+    bad-position-requires
+    returns-4
+    place-room-requires
+    find-places-requires
+    enum-known-w
+    finish-requires
+    enum-known-w-2
+    enum-known-w-3
+    same-length
+    same-length-2
+    returns-5
+    same-length-3
+    returns-6
+    same-length-4
+    returns-7)

@@ -1,0 +1,71 @@
+use Rattle.numbers.specs.Number.{numbersOf}
+use Rattle.translator.proofs.Checking.{bad-here, bad-later, bad-nowhere}
+use Rattle.translator.specs.Handing.{badFrom}
+use borrow.Author.Needs.{needs}
+use lib.ListN.{drop}
+use native.Mathlib.Numerals.{add-one}
+use native.Mathlib.Omega.{arith}
+use mathlib.Core.Path.{_≡_, refl, _∙_}
+use Prim.Native.Nat.{_-_, _≤_}
+use Rattle.translator.proofs.bad_position.Statement.{statement}
+use Rattle.translator.proofs.bad_position.Tie as tie
+
+abbrev Inv-loop : tie.InvT-loop
+Inv-loop entries k base size j₀ j =
+    (j ≤ k) × (badFrom base size j (drop j (numbersOf entries k)) ≡ badFrom base size 0 (numbersOf entries k))
+
+abbrev μ-loop : tie.MeasureT-loop
+μ-loop entries k base size j₀ j = k - j
+
+loop-holds : tie.Need-loop-holds Inv-loop μ-loop
+loop-holds c = (omega arith, refl)
+
+mul-read-number : tie.Need-mul-read-number Inv-loop μ-loop
+mul-read-number c = search needs
+
+read-number-requires : tie.Need-read-number-requires Inv-loop μ-loop
+read-number-requires c κs = search needs
+
+bad-entry-requires : tie.Need-bad-entry-requires Inv-loop μ-loop
+bad-entry-requires c κs = search needs
+
+add-result : tie.Need-add-result Inv-loop μ-loop
+add-result c = search needs
+
+cast-result : tie.Need-cast-result Inv-loop μ-loop
+cast-result c = search needs
+
+returns : tie.Need-returns Inv-loop μ-loop
+returns c = let b = c .before .before .before .before .loop in
+    add-one _ ∙ bad-here _ _ _ _ _ _ (c .before .before .before .loop-test .taken) (c .before .before .read-number .ensures) (c .before .bad-entry .ensures) (c .if1 .taken) ∙ b .inv .1
+
+add-j : tie.Need-add-j Inv-loop μ-loop
+add-j c = search needs
+
+loop-less : tie.Need-loop-less Inv-loop μ-loop
+loop-less c = search needs
+
+loop-again : tie.Need-loop-again Inv-loop μ-loop
+loop-again c = let b = c .before .before .before .before .loop in
+    (omega arith, bad-later _ _ _ _ _ _ (c .before .before .before .loop-test .taken) (c .before .before .read-number .ensures) (c .before .bad-entry .ensures) (c .if1 .left) ∙ b .inv .1)
+
+returns-2 : tie.Need-returns-2 Inv-loop μ-loop
+returns-2 c = bad-nowhere _ _ _ _ _ (c .loop-test .left) ∙ c .before .loop .inv .1
+
+pub bad-position-spec : {M : Type 1} → statement M
+bad-position-spec =
+    tie.close
+    (tie.spec
+    Inv-loop
+    μ-loop
+    loop-holds
+    mul-read-number
+    read-number-requires
+    bad-entry-requires
+    add-result
+    cast-result
+    returns
+    add-j
+    loop-less
+    loop-again
+    returns-2)

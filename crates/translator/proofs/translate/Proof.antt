@@ -1,0 +1,60 @@
+use Rattle.translator.proofs.Checking.{bad-at}
+use Rattle.model.specs.Cases.{given}
+use Rattle.model.specs.Records.{numbersIn}
+use Rattle.translator.proofs.Handed.{handed-back}
+use Rattle.translator.specs.Handing.{badFrom}
+use lib.ListN.{length}
+use borrow.Author.Needs.{needs}
+use Rattle.translator.proofs.translate.Statement.{statement}
+use Rattle.translator.proofs.translate.Tie as tie
+
+attempt-requires : tie.Need-attempt-requires
+attempt-requires c κs = search needs
+
+places-counted-requires : tie.Need-places-counted-requires
+places-counted-requires c κs = search needs
+
+mul-clear-from : tie.Need-mul-clear-from
+mul-clear-from c = search needs
+
+clear-from-requires : tie.Need-clear-from-requires
+clear-from-requires c κs = search needs
+
+records-counted-requires : tie.Need-records-counted-requires
+records-counted-requires c κs = search needs
+
+mul-clear-from-2 : tie.Need-mul-clear-from-2
+mul-clear-from-2 c = search needs
+
+clear-from-requires-2 : tie.Need-clear-from-requires-2
+clear-from-requires-2 c κs = search needs
+
+same-length : tie.Need-same-length
+same-length c = search needs
+
+same-length-2 : tie.Need-same-length-2
+same-length-2 c = search needs
+
+returns : tie.Need-returns
+returns c = let s = c .before .before .before .before .before .before .before .before .before .before .before .before .before .before .before .before .before .before .before .before .before in
+    rw (c .before .before .before .before .before .before .before .clear-from .ensures, c .before .before .clear-from2 .ensures)
+    (record {
+      position = badFrom (s .args .base) (length (s .args .image .now)) 0 (numbersIn (s .args .entries .now));
+      bad = bad-at _ _ _;
+      all = handed-back _ _ _ _ _ _ (c .before .before .before .before .before .before .before .before .before .before .before .before .before .before .attempt .ensures) (c .before .before .before .before .before .before .before .before .places-counted .ensures) (c .before .before .before .records-counted .ensures) (λ i. (c .before .before .before .before .before .before .before .before .before .before .before .before .slice-known3 .given i) .fits) (λ i. (c .before .before .before .before .before .before .before .before .before .before .slice-known4 .given i) .fits);
+    })
+
+pub translate-spec : {M : Type 1} → statement M
+translate-spec =
+    tie.close
+    (tie.spec
+    attempt-requires
+    places-counted-requires
+    mul-clear-from
+    clear-from-requires
+    records-counted-requires
+    mul-clear-from-2
+    clear-from-requires-2
+    same-length
+    same-length-2
+    returns)
