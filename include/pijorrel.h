@@ -63,6 +63,27 @@ struct pijorrel_end pijorrel_new_run(const uint8_t *records, size_t records_leng
                                      uint8_t state[PIJORREL_NEW_STATE], uint8_t *data, size_t data_length,
                                      uint16_t count);
 
+/* What a translation answers: a number, and what is returned with it; second is 0 but for number 0.
+ *   0  accepted (the place count, the record count)
+ *   1  image length 0, above 16,384 or no multiple of 4 (the length)
+ *   2  base no multiple of 4 (the base)
+ *   3  0 or over 64 entries (0), or an entry misaligned or outside the image (the position of one, counted from 1)
+ *   4  a held place has a forbidden word (its address)
+ *   5  no room for a place, or more than 8,192 (its address)
+ *   6  the record buffer is short (the records needed) */
+struct pijorrel_answer {
+    uint32_t number;
+    uint64_t first;
+    uint64_t second;
+};
+
+/* Translates an image from its entries, four bytes each, into a place table and records. On acceptance the bytes past
+ * the last number used are 0, on a refusal all bytes of both buffers. A tail too short for a whole entry, place or
+ * record is not counted. Its index takes 48 KiB of the stack. */
+struct pijorrel_answer pijorrel_translate(const uint8_t *image, size_t image_length, uint32_t base,
+                                          const uint8_t *entries, size_t entries_length, uint8_t *places,
+                                          size_t places_length, uint8_t *records, size_t records_length);
+
 #ifdef __cplusplus
 }
 #endif

@@ -159,6 +159,40 @@ static void listing_runs(void)
     CHECK(end.end == 7 && end.number == 3); /* nor one too short for a record */
 }
 
+/* 01's listing from its image: place table and records to the byte, zeros past them, and refusals that leave zeros. */
+static void translation_edges(void)
+{
+    static const uint32_t image[] = { 0x10800003, 0x82006001, 0, 0x91D02000 };
+    static const uint32_t places[] = { 0, 4, 0, 0, 4, 12, 1, 1, 12, 16, 0, 3 };
+    static const uint32_t records[] = { 5, 1, 0, 1, 2181062657u, 0, 5, 3, 0, 1, 2446336000u, 0 };
+    uint8_t bytes[16], entry[4] = { 0 }, table[70], list[70], zeros[70] = { 0 };
+    for (int i = 0; i < 4; i++)
+        put_number(bytes, i, image[i]);
+    memset(table, 0xA5, sizeof table);
+    memset(list, 0xA5, sizeof list);
+    struct pijorrel_answer a = pijorrel_translate(bytes, 16, 0, entry, 4, table, 65, list, 65);
+    CHECK(a.number == 0 && a.first == 3 && a.second == 4);
+    for (int i = 0; i < 12; i++)
+        CHECK(number_at(table, i) == places[i] && number_at(list, i) == records[i]);
+    CHECK(memcmp(table + 48, zeros, 17) == 0 && memcmp(list + 48, zeros, 17) == 0);
+    CHECK(table[65] == 0xA5 && list[65] == 0xA5);
+    a = pijorrel_translate(bytes, 16, 0, entry, 4, table, 47, list, 65);
+    CHECK(a.number == 5 && a.first == 12 && a.second == 0); /* a tail too short for a place has no room */
+    CHECK(memcmp(table, zeros, 47) == 0 && memcmp(list, zeros, 65) == 0 && table[65] == 0xA5);
+    a = pijorrel_translate(bytes, 16, 0, entry, 4, table, 48, list, 47);
+    CHECK(a.number == 6 && a.first == 4 && memcmp(table, zeros, 48) == 0 && memcmp(list, zeros, 47) == 0);
+    a = pijorrel_translate(bytes, 15, 2, entry, 3, NULL, 0, NULL, 0);
+    CHECK(a.number == 1 && a.first == 15); /* before the base and the entries */
+    a = pijorrel_translate(bytes, 16, 2, entry, 3, NULL, 0, NULL, 0);
+    CHECK(a.number == 2 && a.first == 2);
+    a = pijorrel_translate(bytes, 16, 0, entry, 3, NULL, 0, NULL, 0);
+    CHECK(a.number == 3 && a.first == 0);
+    a = pijorrel_translate(bytes, 16, 4, entry, 4, NULL, 0, NULL, 0);
+    CHECK(a.number == 3 && a.first == 1); /* entry 0 lies outside an image at 4 */
+    a = pijorrel_translate(bytes, 16, 0, entry, 4, NULL, 0, NULL, 0);
+    CHECK(a.number == 5 && a.first == 0);
+}
+
 int main(void)
 {
     couple_of_branches();
@@ -166,6 +200,7 @@ int main(void)
     any_state();
     data_edges();
     listing_runs();
+    translation_edges();
     printf("%d of %d checks of the C interface hold\n", checks - failures, checks);
     return failures != 0;
 }
