@@ -53,3 +53,6 @@ pub record Translates (image : List ℕ) (base : ℕ) (entries : List ℕ) (plac
   pub position : ℕ
   pub bad : anyBad base (length image) (numbersIn entries) ≡ true → BadAt base (length image) (numbersIn entries) position
   pub all : handed r places records ≡ translation image base entries placesLength recordsLength position
+  -- what is counted lies in the buffers
+  pub place-room : 16 * placesCounted r ≤ placesLength
+  pub record-room : 12 * recordsCounted r ≤ recordsLength

@@ -1,3 +1,4 @@
+use native.Mathlib.Omega.{arith}
 use Rattle.translator.proofs.Checking.{bad-at}
 use Rattle.model.specs.Cases.{given}
 use Rattle.model.specs.Records.{numbersIn}
@@ -42,6 +43,8 @@ returns c = let s = c .before .before .before .before .before .before .before .b
       position = badFrom (s .args .base) (length (s .args .image .now)) 0 (numbersIn (s .args .entries .now));
       bad = bad-at _ _ _;
       all = handed-back _ _ _ _ _ _ (c .before .before .before .before .before .before .before .before .before .before .before .before .before .before .attempt .ensures) (c .before .before .before .before .before .before .before .before .places-counted .ensures) (c .before .before .before .records-counted .ensures) (λ i. (c .before .before .before .before .before .before .before .before .before .before .before .before .slice-known3 .given i) .fits) (λ i. (c .before .before .before .before .before .before .before .before .before .before .slice-known4 .given i) .fits);
+      place-room = omega (arith, c .before .before .before .before .before .before .before .before .before .before .before .before .before .before .attempt .ensures .place-room);
+      record-room = omega (arith, c .before .before .before .before .before .before .before .before .before .before .before .before .before .before .attempt .ensures .record-room);
     })
 
 pub translate-spec : {M : Type 1} → statement M
