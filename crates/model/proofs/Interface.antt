@@ -1,13 +1,13 @@
 -- Demand 3 on bytes: a call of count 1 is a step, so the trails read off the bytes are those of the cores. And runs add up.
-use Prim.Native.Nat.{ℕ, zero, suc, _+_, _%_, _^_, _≤_, _<_}
+use Prim.Native.Nat.{ℕ, zero, suc, _+_, _%_, _^_, _≤_, _<_, _*_}
 use native.Mathlib.Omega.{arith}
 use mathlib.Core.Path.{_≡_, refl, sym, ap, _∙_, subst}
 use mathlib.Core.Logic.{_↔_}
 use mathlib.Core.Bool.{Bool, true, false}
-use mathlib.Core.List.{List, []}
+use mathlib.Core.List.{List, [], _∷_}
 use mathlib.Core.Option.{none, some}
 use lib.Dec.{eqb}
-use lib.ListN.{length, take-append-drop, length-take}
+use lib.ListN.{length, take-append-drop, length-take, take}
 use Rattle.numbers.specs.Choice.{pick}
 use Rattle.numbers.specs.Number.{Below, plus, numberAt}
 use Rattle.numbers.proofs.Bounds.{plus-lt}
@@ -19,7 +19,9 @@ use Rattle.model.specs.OldCore.{Old, old, inImage, oldNext, oldBegun}
 use Rattle.model.specs.Places.{plain}
 use Rattle.model.specs.Records.{first, rowsIn, recordsIn}
 use Rattle.model.specs.NewCore.{New, new, newNext, seek, begunAt, newBegun}
-use Rattle.model.specs.Translation.{placeRoom}
+use Rattle.model.specs.declared.Answer.{Answer}
+use Rattle.model.specs.declared.Answer.the-variants.{Accepted, ImageLength, Base, Entry, Forbidden, NoRoom, RecordsShort}
+use Rattle.model.specs.Translation.{answerNumbers, Handed, translation, placeRoom, Back}
 use Rattle.model.specs.Trails.{Core, Unspent}
 use Rattle.model.specs.Cores.{oldMark, oldShown, oldOver, newMark, newShown, newFell, newOver, oldBegin, newBegin, stepsFor, trailOf}
 use Rattle.model.specs.Demand3.{Placed, Complete, GoesBy, Strays, Holds, Demand3}
@@ -250,11 +252,26 @@ module _ (image : List ℕ) (base : ℕ) (entryList : List ℕ) (cap : ℕ) (pla
         (subst Unspent (sym new-trails) (H .new-complete .unspent)))
         strays-same H
 
+-- number 0 is acceptance, with the two counts beside it
+accepted-back : (a : Answer) (P R : ℕ) → answerNumbers a ≡ 0 ∷ P ∷ R ∷ [] → a ≡ Accepted P R
+unfolding answerNumbers
+accepted-back (Accepted p r) P R e = let q : p ≡ P = cc in let s : r ≡ R = cc in cc
+accepted-back (ImageLength n) P R e = let z : _≡_ {A = ℕ} 1 0 = cc in absurd (omega arith)
+accepted-back (Base a) P R e = let z : _≡_ {A = ℕ} 2 0 = cc in absurd (omega arith)
+accepted-back (Entry k) P R e = let z : _≡_ {A = ℕ} 3 0 = cc in absurd (omega arith)
+accepted-back (Forbidden a) P R e = let z : _≡_ {A = ℕ} 4 0 = cc in absurd (omega arith)
+accepted-back (NoRoom a) P R e = let z : _≡_ {A = ℕ} 5 0 = cc in absurd (omega arith)
+accepted-back (RecordsShort n) P R e = let z : _≡_ {A = ℕ} 6 0 = cc in absurd (omega arith)
+
 pub interface : Interface
 unfolding Interface Demand3
-interface image base entryList placesLength recordsLength position placeCount recordCount ib eb handed eh accepted b c bb bd cb cd p q lp lq hp hq db k lk
-    places records et er =
-    let L = laid image base entryList placesLength recordsLength position placeCount recordCount ib eb handed eh accepted places records et er in
+interface image base entryList placesLength recordsLength placeCount recordCount table list ib eb call b c bb bd cb cd p q lp lq hp hq db k lk places records et er =
+    let handed : Handed = translation image base entryList placesLength recordsLength (call .position) in
+    let numbers : answerNumbers (handed .answer) ≡ 0 ∷ placeCount ∷ recordCount ∷ [] = sym (ap (λ (x : Back). x .numbers) (call .all)) in
+    let accepted : handed .answer ≡ Accepted placeCount recordCount = accepted-back (handed .answer) placeCount recordCount numbers in
+    let et′ : places ≡ take (16 * placeCount) (handed .places) = et ∙ ap (λ (x : Back). take (16 * placeCount) (x .places)) (call .all) in
+    let er′ : records ≡ take (12 * recordCount) (handed .records) = er ∙ ap (λ (x : Back). take (12 * recordCount) (x .records)) (call .all) in
+    let L = laid image base entryList placesLength recordsLength (call .position) placeCount recordCount ib eb handed refl accepted places records et′ er′ in
     on-bytes image base entryList (placeRoom placesLength) places records L db b c bb bd cb cd p q lp hq k
-    (demand3 image base entryList placesLength recordsLength position placeCount recordCount ib eb handed eh accepted (startOf p b) (startOf q c) hp hq db k lk
-    places records et er)
+    (demand3 image base entryList placesLength recordsLength (call .position) placeCount recordCount ib eb handed refl accepted (startOf p b) (startOf q c) hp hq
+    db k lk places records et′ er′)

@@ -2,7 +2,7 @@
 -- state and data bytes that the last one left.
 use Prim.Native.Nat.{ℕ, zero, suc, _*_, _%_, _^_, _≤_, _<_}
 use mathlib.Core.Path.{_≡_}
-use mathlib.Core.List.{List}
+use mathlib.Core.List.{List, [], _∷_}
 use mathlib.Core.Option.{Option, none, some}
 use mathlib.Core.Bool.{Bool, false}
 use lib.Dec.{eqb}
@@ -11,11 +11,10 @@ use Rattle.numbers.specs.Choice.{pick}
 use Rattle.numbers.specs.Number.{Below, numberAt, numbersOf}
 use Rattle.machine.specs.Ends.{Ending, ending, Next, go, halt, State, state, live}
 use Rattle.machine.specs.Effect.{Machine, machine}
-use Rattle.model.specs.declared.Answer.the-variants.{Accepted}
 use Rattle.model.specs.Run.{dataOf}
 use Rattle.model.specs.OldCore.{inImage}
 use Rattle.model.specs.Records.{Rec, goHeld, rowsIn, recordsIn}
-use Rattle.model.specs.Translation.{Handed, translation}
+use Rattle.model.specs.Translation.{HandsBack}
 use Rattle.model.specs.Trails.{Core}
 use Rattle.model.specs.Cores.{naming, goesByHeld, Start}
 use Rattle.model.specs.Demand3.{Placed, Holds}
@@ -82,18 +81,19 @@ newStarted places base size a b =
 abbrev pub startOf : ℕ → Bytes → Start
 startOf a b = record { address = a; registers = numbersOf (b .state) 32; flags = numberAt (b .state) 128 % 16; area = b .area }
 
+-- the begins and runs are those that the contracts of `pijorrel_old_begin`, `pijorrel_old_run`, `pijorrel_new_begin`, `pijorrel_new_run` cite
 unfoldable pub Interface : Type 0
 Interface =
-    -- what the translator's contract says of an accepted call
-    (image : List ℕ) (base : ℕ) (entryList : List ℕ) (placesLength recordsLength position placeCount recordCount : ℕ)
+    -- what the contract of `pijorrel_translate` says of an accepted call: number 0, place count, record count, and both buffers
+    (image : List ℕ) (base : ℕ) (entryList : List ℕ) (placesLength recordsLength placeCount recordCount : ℕ) (table list : List ℕ)
     → Below 256 image → Below 256 entryList
-    → (handed : Handed) → handed ≡ translation image base entryList placesLength recordsLength position
-    → handed .answer ≡ Accepted placeCount recordCount
+    → HandsBack image base entryList placesLength recordsLength (0 ∷ placeCount ∷ recordCount ∷ []) table list
     -- for each core any bytes of a state and any data, and an address, of 32 bits, with a plain place
     → (b c : Bytes) → Below 256 (b .state) → Below 256 (b .area) → Below 256 (c .state) → Below 256 (c .area)
     → (p q : ℕ) → p < 2 ^ 32 → q < 2 ^ 32 → Placed image base entryList p → Placed image base entryList q
     → (db k : ℕ) → 1 ≤ k
-    → (places records : List ℕ) → places ≡ take (16 * placeCount) (handed .places) → records ≡ take (12 * recordCount) (handed .records)
+    -- just the places and records counted
+    → (places records : List ℕ) → places ≡ take (16 * placeCount) table → records ≡ take (12 * recordCount) list
     → Holds (BytesGoBy (recordsIn records)) (Placed image base entryList) (inImage base (length image)) k (startOf p b) (startOf q c)
     (oldCalls image base db) (oldStarted p b)
     (newCalls records places base (length image) db) (newStarted places base (length image) q c)

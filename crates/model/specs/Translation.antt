@@ -90,3 +90,22 @@ module _ (image : List ℕ) (base : ℕ) (entries : List ℕ) (placesLength reco
       (pick (badCount (length (numbersIn entries))) (refusal (Entry 0))
       (pick (anyBad base (length image) (numbersIn entries)) (refusal (Entry position))
       (fromWalk (placesOf image base (placeRoom placesLength) (numbersIn entries))))))
+
+-- what the loader's routine returns: the answer's number and values, and the bytes of both buffers
+pub record Back : Type 0 where
+  pub numbers : List ℕ
+  pub places : List ℕ
+  pub records : List ℕ
+
+abbrev pub back : List ℕ → List ℕ → List ℕ → Back
+back numbers places records = record { numbers = numbers; places = places; records = records }
+
+abbrev pub returned : Handed → Back
+returned h = back (answerNumbers (h .answer)) (h .places) (h .records)
+
+-- "an equation where these rules settle it, else the free part by name and all that holds of it. One number is free: where the count is
+-- good, the position in refusal 3 may be that of any bad entry, and is always that of one."
+pub record HandsBack (image : List ℕ) (base : ℕ) (entries : List ℕ) (placesLength recordsLength : ℕ) (numbers places records : List ℕ) : Type 0 where
+  pub position : ℕ
+  pub bad : anyBad base (length image) (numbersIn entries) ≡ true → BadAt base (length image) (numbersIn entries) position
+  pub all : back numbers places records ≡ returned (translation image base entries placesLength recordsLength position)

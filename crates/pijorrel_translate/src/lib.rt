@@ -2,8 +2,7 @@
 ghost use mathlib.Core.Path.{_≡_};
 ghost use mathlib.Core.List.{[], _∷_};
 ghost use lib.ListN.{length};
-ghost use Rattle.model.specs.Translation.{answerNumbers};
-ghost use Rattle.pijorrel_translate.specs.Returned.{HandsBack};
+ghost use Rattle.model.specs.Translation.{answerNumbers, HandsBack};
 use model::Answer;
 
 // 01's number for an answer, and the values returned with it.

@@ -1,4 +1,4 @@
-use Rattle.pijorrel_translate.specs.Returned.{returned}
+use Rattle.model.specs.Translation.{returned}
 use mathlib.Core.Path.{ap}
 use borrow.Author.Needs.{needs}
 use Rattle.pijorrel_translate.proofs.pijorrel_translate.Statement.{statement}
