@@ -24,6 +24,7 @@ fn hash(x: Place) -> usize
     }
 }
 
+// The number found so far, or i where place i is the one: chains go from high numbers to low.
 fn better(best: usize, i: usize, hit: bool) -> usize
     ensures { λ r. ⌜ r ≡ pick hit i best ⌝ }
 {

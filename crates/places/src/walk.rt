@@ -1,6 +1,5 @@
 // The worklist: places are handled in number order, and each adds those of its followers that are not yet present.
-ghost use mathlib.Core.Path.{_≡_};
-ghost use Prim.Native.Nat.{_+_, _*_, _/_, _≤_, _<_, suc, min};
+ghost use Prim.Native.Nat.{_+_, _*_, _≤_, _<_, suc};
 ghost use mathlib.Core.List.{[], _∷_};
 ghost use lib.ListN.{length};
 ghost use Rattle.numbers.specs.Number.{numbersOf};

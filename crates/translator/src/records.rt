@@ -1,7 +1,7 @@
 // The records of all groups, three numbers each, big-endian, in bytes that the caller lends.
 ghost use mathlib.Core.Path.{_≡_};
 ghost use Prim.Native.Nat.{_+_, _*_, _≤_};
-ghost use mathlib.Core.List.{List, [], _∷_, _++_};
+ghost use mathlib.Core.List.{[], _∷_, _++_};
 ghost use lib.ListN.{length};
 ghost use Rattle.numbers.specs.Number.{numbersOf};
 ghost use Rattle.model.specs.Records.{past, put, numbered, recordNumbers, recordsNumbers, recordsFrom};
