@@ -25,3 +25,6 @@ pub mod interface;
 pub mod state;
 
 pub mod random;
+
+pub mod edges;
+pub mod files;

@@ -6,6 +6,8 @@
 //! reading census SEED COUNT    what the random cases meet
 //! reading file KIND SEED COUNT random cases as a file of numbers; KIND is translate, old_core or
 //!                              new_core
+//! reading file edges           calls of the translator at the edges of its answers, as such a file
+//! reading file listings        inputs of the listing program with what it prints, as such a file
 //! reading listing              01's listing of the image on standard input
 //! reading translate BASE ENTRY...
 //!                              the translation of the image on standard input, as lines
@@ -55,7 +57,9 @@ use std::io::{self, BufWriter, Read, Write};
 use std::process::ExitCode;
 
 use reading::claim::{check, Accepted, Start};
-use reading::interface::{new_run_call, old_run_call, translate_call};
+use reading::edges::{edges_file, listings_file};
+use reading::files::{pad, translate_case};
+use reading::interface::{new_run_call, old_run_call};
 use reading::machine::Area;
 use reading::new_core;
 use reading::old_core::{self, Image};
@@ -82,6 +86,8 @@ fn main() -> ExitCode {
                 .zip(number(count))
                 .map(|(s, c)| file(kind, s, c))
         }
+        ["file", "edges"] => Some(whole_file(&edges_file())),
+        ["file", "listings"] => Some(whole_file(&listings_file())),
         ["listing"] => Some(listing()),
         ["translate", base, ref entries @ ..] => address(base)
             .zip(entries.iter().copied().map(address).collect())
@@ -101,6 +107,7 @@ fn main() -> ExitCode {
             eprintln!("       reading claim SEED COUNT");
             eprintln!("       reading census SEED COUNT");
             eprintln!("       reading file translate|old_core|new_core SEED COUNT");
+            eprintln!("       reading file edges|listings");
             eprintln!("       reading listing < IMAGE");
             eprintln!("       reading translate BASE ENTRY... < IMAGE");
             ExitCode::from(2)
@@ -434,7 +441,7 @@ fn file(kind: &str, seed: u64, count: u64) -> io::Result<ExitCode> {
     out.write_all(&bytes([count as u32]))?;
     for _ in 0..count {
         let case = match kind {
-            "translate" => translate_case(&mut random),
+            "translate" => translate_case(&random_translate_call(&mut random)),
             "old_core" => old_core_case(&mut random),
             _ => new_core_case(&mut random),
         };
@@ -444,40 +451,9 @@ fn file(kind: &str, seed: u64, count: u64) -> io::Result<ExitCode> {
     Ok(ExitCode::SUCCESS)
 }
 
-fn pad(case: &mut Vec<u8>, area: &[u8]) {
-    case.extend(area);
-    case.resize(case.len().div_ceil(4) * 4, 0);
-}
-
-fn translate_case(random: &mut Random) -> Vec<u8> {
-    let call = random_translate_call(random);
-    let mut places = vec![0xFF; call.places_length];
-    let mut records = vec![0xFF; call.records_length];
-    let image = Image {
-        bytes: &call.image,
-        base: call.base,
-    };
-    let allowed = translate_call(image, &call.entries, &mut places, &mut records);
-    let answer = allowed[0];
-    let several = (allowed.len() > 1) as u32;
-    let mut case = bytes([
-        0x5452_4E53,
-        call.image.len() as u32,
-        call.base,
-        call.entries.len() as u32,
-        call.places_length as u32,
-        call.records_length as u32,
-        answer.number,
-        answer.first as u32,
-        answer.second as u32 + several,
-    ]);
-    pad(&mut case, &call.image);
-    pad(&mut case, &call.entries);
-    if answer.number == 0 {
-        case.extend(&places[..16 * answer.first as usize]);
-        case.extend(&records[..12 * answer.second as usize]);
-    }
-    case
+fn whole_file(bytes: &[u8]) -> io::Result<ExitCode> {
+    io::stdout().lock().write_all(bytes)?;
+    Ok(ExitCode::SUCCESS)
 }
 
 fn old_core_case(random: &mut Random) -> Vec<u8> {

@@ -1,0 +1,449 @@
+//! Calls of the translator at the edges of 01's table of answers, and inputs of the listing program: for every
+//! refusal the last value that passes and the first that does not. Each has its answer, worked out by hand from 01.
+
+use crate::files::{listing_case, translate_case};
+use crate::random::TranslateCall;
+use crate::translator::bytes;
+
+const ADD: u32 = 0x8200_6001; // add 1 to register 1
+const TA: u32 = 0x91D0_2000; // ta 0
+const TN: u32 = 0x81D0_2000; // tn 0: a Ticc that is never taken
+const BA: u32 = 0x1080_0000;
+const BE: u32 = 0x0280_0000;
+const BN: u32 = 0x0080_0000;
+const ANNUL: u32 = 0x2000_0000;
+const CALL: u32 = 0x4000_0000;
+const RETURN: u32 = 0x81C3_E008; // jmpl register 15, constant 8, to register 0
+const LINK: u32 = 0x83C3_E008; // the same to register 1
+const ILLEGAL: u32 = 0;
+
+/// 01's listing.
+const LISTED: [u32; 4] = [0x1080_0003, ADD, ILLEGAL, TA];
+
+const PLACE: usize = 16;
+const RECORD: usize = 12;
+
+/// A call, and 01's answer: number, first, second. Where several entries are bad, first is the lowest position.
+pub struct Edge {
+    pub call: TranslateCall,
+    pub answer: (u32, u64, u64),
+    pub several_bad: bool,
+}
+
+/// A branch of this kind over so many words.
+fn over(branch: u32, words: i32) -> u32 {
+    branch | (words as u32 & 0x3F_FFFF)
+}
+
+/// A call of an image at a base with room for 80 places and 160 records.
+fn edge(words: &[u32], base: u32, entries: &[u32], answer: (u32, u64, u64)) -> Edge {
+    Edge {
+        call: TranslateCall {
+            image: bytes(words.iter().copied()),
+            base,
+            entries: bytes(entries.iter().copied()),
+            places_length: 80 * PLACE,
+            records_length: 160 * RECORD,
+        },
+        answer,
+        several_bad: false,
+    }
+}
+
+impl Edge {
+    /// The image cut, or continued with zeros, to so many bytes.
+    fn image_of(mut self, length: usize) -> Edge {
+        self.call.image.resize(length, 0);
+        self
+    }
+
+    /// The entry list cut, or continued with bytes that make a bad entry, to so many bytes.
+    fn entries_of(mut self, length: usize) -> Edge {
+        self.call.entries.resize(length, 0xFF);
+        self
+    }
+
+    /// Lent buffers of so many bytes.
+    fn lent(mut self, places: usize, records: usize) -> Edge {
+        self.call.places_length = places;
+        self.call.records_length = records;
+        self
+    }
+
+    fn several_bad(mut self) -> Edge {
+        self.several_bad = true;
+        self
+    }
+}
+
+/// Refusal 1. Accepted: a ta alone, one place and one record.
+fn lengths() -> Vec<Edge> {
+    let of = |length: usize, answer| edge(&[TA], 0, &[0], answer).image_of(length);
+    let accepted = [4, 8, 12, 16_380, 16_384].map(|length| of(length, (0, 1, 1)));
+    let refused = [0, 1, 2, 3, 5, 6, 7, 16_381, 16_385, 16_388]
+        .map(|length| of(length, (1, length as u64, 0)));
+    // 1 comes before all others, and with buffers of no bytes.
+    let first = [
+        edge(&[], 1, &[], (1, 0, 0)),
+        edge(&[TA; 2], 3, &[2, 6], (1, 6, 0)).image_of(6),
+        edge(&[], 0, &[0], (1, 0, 0)).lent(0, 0),
+    ];
+    accepted.into_iter().chain(refused).chain(first).collect()
+}
+
+/// Refusal 2.
+fn bases() -> Vec<Edge> {
+    let accepted =
+        [0, 4, 0x8000_0000, 0xFFFF_FFFC].map(|base| edge(&[TA], base, &[base], (0, 1, 1)));
+    let refused = [1, 2, 3, 0x8000_0002, 0xFFFF_FFFD, 0xFFFF_FFFE, 0xFFFF_FFFF]
+        .map(|base| edge(&[TA], base, &[base & !3], (2, base as u64, 0)));
+    // 2 comes before 3, 5 and 6.
+    let first = [
+        edge(&[TA], 2, &[], (2, 2, 0)),
+        edge(&[TA], 2, &[0; 65], (2, 2, 0)),
+        edge(&[TA], 2, &[2], (2, 2, 0)).lent(0, 0),
+    ];
+    accepted.into_iter().chain(refused).chain(first).collect()
+}
+
+/// Refusal 3, the count: each entry is a ta, so a list of so many has as many places and records. Tails are bytes
+/// of an entry that would be bad.
+fn entry_counts() -> Vec<Edge> {
+    let base = 0x1000;
+    let words = [TA; 65];
+    let all: Vec<u32> = (0..65).map(|k| base + 4 * k).collect();
+    let of =
+        |length: usize, answer| edge(&words, base, &all[..length / 4], answer).entries_of(length);
+    let accepted = [4, 5, 7, 8, 252, 255, 256, 257, 259]
+        .map(|length| of(length, (0, length as u64 / 4, length as u64 / 4)));
+    let refused = [0, 1, 2, 3, 260, 261, 263].map(|length| of(length, (3, 0, 0)));
+    let others = [
+        edge(&words, base, &[0; 1000], (3, 0, 0)),
+        edge(&words, base, &[base; 64], (0, 1, 1)),
+        edge(&words, base, &[base; 65], (3, 0, 0)),
+        // A bad count comes before a bad entry, and 3 before 5 and 6.
+        edge(&words, base, &[base + 2; 65], (3, 0, 0)),
+        edge(&words, base, &[base; 65], (3, 0, 0)).lent(0, 0),
+    ];
+    accepted.into_iter().chain(refused).chain(others).collect()
+}
+
+/// Refusal 3, the entries: an image of four words, each a ta, with its second word at `base + 4`.
+fn entries_around(base: u32) -> Vec<Edge> {
+    let at = |distance: i32, answer| {
+        edge(
+            &[TA; 4],
+            base,
+            &[base.wrapping_add(distance as u32)],
+            answer,
+        )
+    };
+    let accepted = [0, 4, 8, 12].map(|distance| at(distance, (0, 1, 1)));
+    let refused = [
+        -16,
+        -4,
+        -3,
+        -2,
+        -1,
+        1,
+        2,
+        3,
+        5,
+        11,
+        13,
+        14,
+        15,
+        16,
+        17,
+        20,
+        i32::MIN,
+    ]
+    .map(|distance| at(distance, (3, 1, 0)));
+    accepted.into_iter().chain(refused).collect()
+}
+
+/// Refusal 3, the position: lists with exactly one bad entry, then lists with several.
+fn bad_positions() -> Vec<Edge> {
+    let words = [TA; 4];
+    let one_bad = |count: usize, position: usize, bad| {
+        let mut entries = vec![12; count];
+        entries[position - 1] = bad;
+        edge(&words, 0, &entries, (3, position as u64, 0))
+    };
+    let positions = [
+        (2, 1),
+        (2, 2),
+        (3, 2),
+        (63, 63),
+        (64, 1),
+        (64, 2),
+        (64, 32),
+        (64, 63),
+        (64, 64),
+    ];
+    let outside = positions.map(|(count, position)| one_bad(count, position, 16));
+    let misaligned = positions.map(|(count, position)| one_bad(count, position, 2));
+    let others = [
+        // 3 comes before 5 and 6.
+        edge(&words, 0, &[0, 16], (3, 2, 0)).lent(0, 0),
+        edge(&words, 0, &[16, 0, 2], (3, 1, 0)).several_bad(),
+        edge(&words, 0, &[0, 2, 16], (3, 2, 0)).several_bad(),
+        edge(&words, 0, &[0, 4, 8, 13, 12, 0xFFFF_FFFC], (3, 4, 0)).several_bad(),
+        edge(&words, 0, &[16; 64], (3, 1, 0)).several_bad(),
+    ];
+    outside
+        .into_iter()
+        .chain(misaligned)
+        .chain(others)
+        .collect()
+}
+
+/// Refusal 4: a jmpl to register 0 and the word that it holds.
+fn held(word: u32, answer: (u32, u64, u64)) -> Edge {
+    let base = 0x2000;
+    edge(&[RETURN, word], base, &[base], answer)
+}
+
+/// Its 32 branches: "any Bicc but 0 without annul". That one has records 3, 5 and 1, 6.
+fn held_branches() -> Vec<Edge> {
+    (0..32)
+        .map(|k| BN | (k / 2) << 25 | (k % 2 * ANNUL))
+        .map(|branch| {
+            held(
+                branch,
+                if branch == BN {
+                    (0, 2, 4)
+                } else {
+                    (4, 0x2004, 0)
+                },
+            )
+        })
+        .collect()
+}
+
+fn held_words() -> Vec<Edge> {
+    let forbidden = [CALL, CALL | 1, RETURN, LINK].map(|word| held(word, (4, 0x2004, 0)));
+    let accepted = [ADD, TN, over(BN, 5)].map(|word| held(word, (0, 2, 4)));
+    // records 3, 5 and one 1, or one 7; outside the image too
+    let ending = [TA, ILLEGAL].map(|word| held(word, (0, 2, 3)));
+    let others = [
+        edge(&[RETURN], 0x2000, &[0x2000], (0, 2, 3)),
+        // The same branch is plain too; a branch in the slot of a branch to the held word.
+        edge(&[RETURN, BA], 0, &[4, 0], (4, 4, 0)),
+        edge(&[over(BA, 3), RETURN, ADD, BA], 0, &[0], (4, 12, 0)),
+        edge(&[over(BA, 3), RETURN, BA, ADD], 0, &[0], (0, 3, 5)),
+    ];
+    let words = forbidden.into_iter().chain(accepted).chain(ending);
+    words.chain(others).collect()
+}
+
+/// Refusals 4 and 5: the first event decides, and 6 comes last.
+fn first_events() -> Vec<Edge> {
+    // plain 0, held 4 (forbidden), plain 8
+    let one = |room: usize, records: usize, answer| {
+        edge(&[LINK, BA, TA], 0, &[0], answer).lent(room * PLACE, records)
+    };
+    // plain 0, plain 12, held 4 (forbidden), plain 16; plain 20 would come after held 4 is handled
+    let two = |room: usize, answer| {
+        edge(&[RETURN, BA, TA, ADD, ADD, TA], 0, &[0, 12], answer).lent(room * PLACE, 0)
+    };
+    vec![
+        one(0, 0, (5, 0, 0)),
+        one(0, 1920, (5, 0, 0)),
+        one(1, 0, (5, 4, 0)),
+        one(1, 1920, (5, 4, 0)),
+        one(2, 0, (5, 8, 0)),
+        one(2, 1920, (5, 8, 0)),
+        one(3, 0, (4, 4, 0)),
+        one(3, 1920, (4, 4, 0)),
+        two(2, (5, 4, 0)),
+        two(3, (5, 16, 0)),
+        two(4, (4, 4, 0)),
+        two(5, (4, 4, 0)),
+    ]
+}
+
+/// Refusals 5 and 6 on 01's listing, which has three places and four records.
+fn short_buffers() -> Vec<Edge> {
+    let lend = |places, records, answer| edge(&LISTED, 0, &[0], answer).lent(places, records);
+    let tables = [
+        (0, 0),
+        (1, 0),
+        (15, 0),
+        (16, 4),
+        (31, 4),
+        (32, 12),
+        (46, 12),
+        (47, 12),
+    ];
+    let no_place = tables.map(|(length, address)| lend(length, 48, (5, address, 0)));
+    let neither = tables.map(|(length, address)| lend(length, 47, (5, address, 0)));
+    let no_record = [0, 1, 11, 12, 35, 36, 46, 47].map(|length| lend(48, length, (6, 4, 0)));
+    let tail = [0, 47].map(|length| lend(63, length, (6, 4, 0)));
+    let accepted = [(48, 48), (49, 48), (63, 59), (64, 60), (48, 49), (101, 103)]
+        .map(|(places, records)| lend(places, records, (0, 3, 4)));
+    let others = [
+        lend(0, 0, (5, 0, 0)),
+        // An entry is a place like any other; a repeat adds none.
+        edge(&LISTED, 0, &[12, 8], (5, 8, 0)).lent(PLACE, 160 * RECORD),
+        edge(&LISTED, 0, &[12, 8], (0, 2, 2)).lent(2 * PLACE, 2 * RECORD),
+        edge(&LISTED, 0, &[12, 12], (0, 1, 1)).lent(PLACE, RECORD),
+    ];
+    let short = no_place.into_iter().chain(neither).chain(no_record);
+    short.chain(tail).chain(accepted).chain(others).collect()
+}
+
+/// So many words, the first illegal and the others be to it, from the second on: a slot (p, 0) and a plain place for
+/// every word, the word past the end included, but no slot for the first two; and (0, 0) and plain 0. Of 4,096 words
+/// they are 8,193, and the last two are at the image's end.
+fn branches_to_the_first(count: usize) -> Vec<u32> {
+    let mut words = vec![ILLEGAL];
+    words.extend((1..count as i32).map(|k| over(BE, -k)));
+    words
+}
+
+/// The same with an add as the last word: one place fewer, the last a plain one at the image's end.
+fn with_an_add(count: usize) -> Vec<u32> {
+    let mut words = branches_to_the_first(count);
+    words[count - 1] = ADD;
+    words
+}
+
+/// Refusal 5, "or is the 8,193rd". The records of 8,192 places: two for each, but one for plain 0, (0, 0) and the
+/// place past the end.
+fn most_places() -> Vec<Edge> {
+    let base = 0x4000_0000;
+    let entry = [base + 4];
+    let (past, last) = (base as u64 + 16_384, base as u64 + 16_380);
+    let records = 2 * 8_192 - 3;
+    let room = records * RECORD;
+    let too_many = |answer| edge(&branches_to_the_first(4096), base, &entry, answer);
+    let most = |answer| edge(&with_an_add(4096), base, &entry, answer);
+    vec![
+        too_many((5, past, 0)).lent(8_194 * PLACE, 0),
+        too_many((5, past, 0)).lent(8_192 * PLACE, 16_384 * RECORD),
+        most((5, past, 0)).lent(8_192 * PLACE - 1, room),
+        most((5, last, 0)).lent(8_191 * PLACE - 1, room),
+        most((6, records as u64, 0)).lent(8_192 * PLACE, room - 1),
+        most((0, 8_192, records as u64)).lent(8_193 * PLACE + 5, room + 7),
+    ]
+}
+
+/// Bases that wrap, and transfers across the top of the address space in both directions.
+fn across_the_top() -> Vec<Edge> {
+    let base = 0xFFFF_FFF8;
+    let mut edges = vec![
+        // plain, plain (a pair whose next is p + 4), plain 0
+        edge(&[over(BA, 2), ADD, TA], base, &[base], (0, 3, 4)),
+        // plain, slot to 4, plain 0, plain 4
+        edge(&[CALL | 3, ADD, TA, TA], base, &[base], (0, 4, 6)),
+        // plain 0, slot 4 to the top word, plain 4, the top word, plain 8
+        edge(&[TA, over(BE, -1), ADD, TA], base + 4, &[0], (0, 5, 8)),
+        // plain 0, slot 4, and far outside
+        edge(&[over(BA, -0x20_0000), ADD], 0, &[0], (0, 3, 4)),
+        // plain 0, slot 4, plain 8, outside at the top word
+        edge(&[CALL | 0x3FFF_FFFF, ADD, TA], 0, &[0], (0, 4, 6)),
+        // the top word and plain 0: outside an image that ends at the top, inside one that goes on
+        edge(&[ADD], base + 4, &[base + 4], (0, 2, 3)),
+        edge(&[ADD, TA], base + 4, &[base + 4], (0, 2, 3)),
+        edge(&[ADD, TA], base + 4, &[base + 4, 0], (0, 2, 3)),
+        edge(&[ADD], base + 4, &[0], (3, 1, 0)),
+        // jmpl at the top word holds 0, the place past it is 4
+        edge(&[LINK, ADD, TA], base + 4, &[base + 4], (0, 3, 5)),
+        edge(&[LINK, BA, TA], base + 4, &[base + 4], (4, 0, 0)),
+        edge(&[LINK, ADD, TA], base + 4, &[base + 4], (5, 4, 0)).lent(47, 60),
+    ];
+    // The largest image, its last word the top word; then one that wraps after its first word.
+    let largest = [vec![TA; 4095], vec![ADD]].concat();
+    edges.push(edge(&largest, 0xFFFF_C000, &[base + 4], (0, 2, 3)));
+    edges.push(edge(&largest, base + 4, &[0x3FF8, base + 4], (0, 3, 4)));
+    edges
+}
+
+/// 01's cases P1 to P7 as far as they are the translator's.
+fn cases_of_01() -> Vec<Edge> {
+    vec![
+        edge(&LISTED, 0, &[0], (0, 3, 4)),
+        edge(
+            &[over(BA, 4), over(BA, 5), 0, 0, ADD, 0, TA],
+            0,
+            &[0],
+            (0, 4, 5),
+        ),
+        edge(&[over(BA, 2), ADD, TA], 0, &[0], (0, 3, 4)),
+        edge(&[over(BE | ANNUL, 4), ADD, TA, 0, TA], 0, &[0], (0, 4, 6)),
+        edge(&[BA | ANNUL], 0, &[0], (0, 1, 1)),
+        edge(&[RETURN, BA], 0, &[0], (4, 4, 0)),
+    ]
+}
+
+pub fn edges() -> Vec<Edge> {
+    let parts = [
+        cases_of_01(),
+        lengths(),
+        bases(),
+        entry_counts(),
+        entries_around(0x1000),
+        entries_around(0xFFFF_FFF8),
+        entries_around(0xFFFF_FFF0),
+        bad_positions(),
+        held_branches(),
+        held_words(),
+        first_events(),
+        short_buffers(),
+        across_the_top(),
+        most_places(),
+    ];
+    parts.into_iter().flatten().collect()
+}
+
+/// The edges with this reading's answers, as a file of cases.
+pub fn edges_file() -> Vec<u8> {
+    let cases: Vec<Vec<u8>> = edges()
+        .iter()
+        .map(|edge| translate_case(&edge.call))
+        .collect();
+    [bytes([cases.len() as u32]), cases.concat()].concat()
+}
+
+/// Inputs of the listing program, each with how its output starts: around 0 and 1,024 bytes, a refusal of each number
+/// that it can meet, and 512 and 513 places.
+pub fn listings() -> Vec<(Vec<u8>, &'static str)> {
+    let zeros = |length| vec![0; length];
+    // be to far outside, but for some adds at the end: plain places of 256 words and the end, a slot after each be,
+    // (t, t) and plain t.
+    let many = |adds: usize| {
+        let mut words: Vec<u32> = (0..256).map(|k| over(BE, 300 - k)).collect();
+        words[256 - adds..].fill(ADD);
+        bytes(words)
+    };
+    let tables = "place address next kind record\n0 0 4 0 0\n";
+    vec![
+        (bytes(LISTED), "place address next kind record\n0 0 4 0 0\n1 4 12 1 1\n2 12 16 0 3\nkind first second\n5 1 0\n1 2181062657 0\n5 3 0\n1 2446336000 0\n"),
+        (zeros(0), "refused detail\n1 0\n"),
+        (zeros(1), "refused detail\n1 1\n"),
+        (zeros(3), "refused detail\n1 3\n"),
+        (zeros(4), "place address next kind record\n0 0 4 0 0\nkind first second\n7 3 0\n"),
+        (zeros(1_020), "place address next kind record\n0 0 4 0 0\nkind first second\n7 3 0\n"),
+        (zeros(1_022), "refused detail\n1 1022\n"),
+        (zeros(1_023), "refused detail\n1 1023\n"),
+        (zeros(1_024), "place address next kind record\n0 0 4 0 0\nkind first second\n7 3 0\n"),
+        (zeros(1_025), "refused detail\n1 1025\n"),
+        (zeros(1_028), "refused detail\n1 1025\n"),
+        (zeros(4_096), "refused detail\n1 1025\n"),
+        (bytes([RETURN, BA]), "refused detail\n4 4\n"),
+        (bytes(vec![ADD; 256]), tables),
+        (many(3), tables),
+        (many(2), "refused detail\n5 1024\n"),
+    ]
+}
+
+/// The inputs with what the program prints, as a file of cases.
+pub fn listings_file() -> Vec<u8> {
+    let inputs = listings();
+    let cases: Vec<Vec<u8>> = inputs
+        .iter()
+        .map(|(input, _)| listing_case(input))
+        .collect();
+    [bytes([cases.len() as u32]), cases.concat()].concat()
+}

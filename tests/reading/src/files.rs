@@ -1,0 +1,54 @@
+//! Files of cases: numbers of four bytes, big-endian; a byte area is padded with zeros to a multiple of four.
+//! The first number is how many cases follow.
+
+use crate::interface::translate_call;
+use crate::listing::listing;
+use crate::old_core::Image;
+use crate::random::TranslateCall;
+use crate::translator::bytes;
+
+pub fn pad(case: &mut Vec<u8>, area: &[u8]) {
+    case.extend(area);
+    case.resize(case.len().div_ceil(4) * 4, 0);
+}
+
+/// A call of the translator with this reading's answer. Where several entries are bad, the second number beside
+/// refusal 3 is 1 and the first is the lowest bad position.
+pub fn translate_case(call: &TranslateCall) -> Vec<u8> {
+    let mut places = vec![0xFF; call.places_length];
+    let mut records = vec![0xFF; call.records_length];
+    let image = Image {
+        bytes: &call.image,
+        base: call.base,
+    };
+    let allowed = translate_call(image, &call.entries, &mut places, &mut records);
+    let answer = allowed[0];
+    let several = (allowed.len() > 1) as u32;
+    let mut case = bytes([
+        0x5452_4E53,
+        call.image.len() as u32,
+        call.base,
+        call.entries.len() as u32,
+        call.places_length as u32,
+        call.records_length as u32,
+        answer.number,
+        answer.first as u32,
+        answer.second as u32 + several,
+    ]);
+    pad(&mut case, &call.image);
+    pad(&mut case, &call.entries);
+    if answer.number == 0 {
+        case.extend(&places[..16 * answer.first as usize]);
+        case.extend(&records[..12 * answer.second as usize]);
+    }
+    case
+}
+
+/// An input of the listing program, and what it prints.
+pub fn listing_case(input: &[u8]) -> Vec<u8> {
+    let text = listing(input);
+    let mut case = bytes([0x4C49_5354, input.len() as u32, text.len() as u32]);
+    pad(&mut case, input);
+    pad(&mut case, text.as_bytes());
+    case
+}
