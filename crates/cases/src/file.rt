@@ -82,6 +82,23 @@ pub fn copy(to: &mut [u8], from: &[u8]) {
     }
 }
 
+// The byte at a position, or another one past the end.
+fn byte_or(bytes: &[u8], i: usize, other: u8) -> u8 {
+    if i < bytes.len() { bytes[i] } else { other }
+}
+
+// Whether an area starts with known bytes and has one byte alone past them.
+pub fn holds(area: &[u8], known: &[u8], past: u8) -> bool {
+    let mut i: usize = 0;
+    while i < area.len() {
+        if area[i] != byte_or(known, i, past) {
+            return false;
+        }
+        i += 1;
+    }
+    known.len() <= area.len()
+}
+
 // The parts of the case at a position: six numbers, a state of 152 bytes, an image, data, so many bytes of answers, data.
 pub fn locate(bytes: &[u8], at: usize, answers: usize) -> Parts
     requires { ⌜ (at ≤ length (now bytes) + 4) × (answers < 2 ^ 40) ⌝ }

@@ -6,9 +6,11 @@ use file::Found;
 use libc::STDOUT_FILENO;
 
 mod file;
+mod listed;
 mod old;
 mod records;
 mod trail;
+mod translation;
 
 // The most bytes of a file that are read.
 const LARGEST: usize = 1048576;
@@ -18,6 +20,8 @@ enum Kind {
     Old,
     New,
     Trail,
+    Translation,
+    Listing,
 }
 
 fn say(text: &[u8]) {
@@ -51,8 +55,8 @@ fn data_size(kind: Kind, bytes: &[u8], at: usize) -> usize
     }
 }
 
-// Runs the case at a position. A case with data that do not fit the area differs.
-fn check(kind: Kind, bytes: &[u8], at: usize) -> Found
+// Runs a core's case at a position. A case with data that do not fit the area differs.
+fn check_run(kind: Kind, bytes: &[u8], at: usize) -> Found
     requires { ⌜ at ≤ length (now bytes) + 4 ⌝ }
 {
     let mut zeros = space();
@@ -61,7 +65,18 @@ fn check(kind: Kind, bytes: &[u8], at: usize) -> Found
     match kind {
         Kind::Old => old::check(bytes, at, area),
         Kind::New => records::check(bytes, at, area),
-        Kind::Trail => trail::check(bytes, at, area),
+        _ => trail::check(bytes, at, area),
+    }
+}
+
+// Runs the case at a position.
+fn check(kind: Kind, bytes: &[u8], at: usize) -> Found
+    requires { ⌜ at ≤ length (now bytes) + 4 ⌝ }
+{
+    match kind {
+        Kind::Translation => translation::check(bytes, at),
+        Kind::Listing => listed::check(bytes, at),
+        _ => check_run(kind, bytes, at),
     }
 }
 
@@ -92,7 +107,7 @@ fn agreeing(kind: Kind, name: &[u8], bytes: &[u8]) -> u64 {
 }
 
 // Runs a file, and says how many entries of how many cases agree, with the words that go between and after.
-fn run(kind: Kind, name: &[u8], buffer: &mut [u8; LARGEST], between: &[u8], after: &[u8]) {
+fn run_with(kind: Kind, name: &[u8], buffer: &mut [u8; LARGEST], between: &[u8], after: &[u8]) {
     let n = file::load(name, buffer);
     let bytes = file::part(buffer, 0, n);
     let entries = agreeing(kind, name, bytes);
@@ -104,27 +119,23 @@ fn run(kind: Kind, name: &[u8], buffer: &mut [u8; LARGEST], between: &[u8], afte
     say(after);
 }
 
+// The same for cases of one entry each.
+fn run(kind: Kind, name: &[u8], buffer: &mut [u8; LARGEST]) {
+    run_with(kind, name, buffer, b" of ", b" agree\n");
+}
+
 fn main() {
     let mut buffer = [0u8; LARGEST];
-    run(
-        Kind::Old,
-        b"old_core.bin",
-        &mut buffer,
-        b" of ",
-        b" agree\n",
-    );
-    run(
-        Kind::New,
-        b"new_core.bin",
-        &mut buffer,
-        b" of ",
-        b" agree\n",
-    );
-    run(
+    run(Kind::Old, b"old_core.bin", &mut buffer);
+    run(Kind::New, b"new_core.bin", &mut buffer);
+    run_with(
         Kind::Trail,
         b"trails.bin",
         &mut buffer,
         b" entries of ",
         b" programs agree\n",
     );
+    run(Kind::Translation, b"translate.bin", &mut buffer);
+    run(Kind::Translation, b"edges.bin", &mut buffer);
+    run(Kind::Listing, b"listings.bin", &mut buffer);
 }

@@ -2,8 +2,8 @@ use lib.Seq.{length-take-le}
 use native.Mathlib.Omega.{arith}
 use mathlib.Core.Path.{sym}
 use borrow.Author.Needs.{needs}
-use Rattle.cases.proofs.check.Statement.{statement}
-use Rattle.cases.proofs.check.Tie as tie
+use Rattle.cases.proofs.check_run.Statement.{statement}
+use Rattle.cases.proofs.check_run.Tie as tie
 
 space-requires : tie.Need-space-requires
 space-requires c κs = search needs
@@ -32,9 +32,6 @@ enum-told-2 c = search needs
 check-requires-2 : tie.Need-check-requires-2
 check-requires-2 c κs = search needs
 
-enum-told-3 : tie.Need-enum-told-3
-enum-told-3 c = search needs
-
 check-requires-3 : tie.Need-check-requires-3
 check-requires-3 c κs = search needs
 
@@ -47,8 +44,8 @@ returns-2 c = search needs
 returns-3 : tie.Need-returns-3
 returns-3 c = search needs
 
-pub check-spec : {M : Type 1} → statement M
-check-spec =
+pub check-run-spec : {M : Type 1} → statement M
+check-run-spec =
     tie.close
     (tie.spec
     space-requires
@@ -60,7 +57,6 @@ check-spec =
     check-requires
     enum-told-2
     check-requires-2
-    enum-told-3
     check-requires-3
     returns
     returns-2

@@ -1,0 +1,34 @@
+// A case of the listing library: the bytes that the listing program read, and all that it writes.
+ghost use Prim.Native.Nat.{_+_, _≤_};
+ghost use lib.ListN.{length};
+use crate::file::Found;
+use crate::file::holds;
+use crate::file::number;
+use crate::file::padded;
+use crate::file::part;
+
+// What a case starts with.
+const TAG: u32 = 0x4C495354;
+
+// Whether a buffer starts with a known text, and holds what it held before past it.
+fn shows(out: &[u8; 131072], text: &[u8]) -> bool {
+    holds(out, text, 0xA5)
+}
+
+// Lists the case that starts at a position, in a buffer that held other bytes and keeps them past the listing. It has one entry.
+pub fn check(bytes: &[u8], at: usize) -> Found
+    requires { ⌜ at ≤ length (now bytes) + 4 ⌝ }
+{
+    let extent = number(bytes, at + 4);
+    let size = number(bytes, at + 8);
+    let text = at + 12 + padded(extent);
+    let known = part(bytes, text, size as usize);
+    let mut out = [0xA5u8; 131072];
+    let n = listing::list(part(bytes, at + 12, extent as usize), &mut out);
+    let agrees = number(bytes, at) == TAG && n == size as usize && shows(&out, known);
+    Found {
+        next: text + padded(size),
+        entries: agrees as u32,
+        agrees,
+    }
+}

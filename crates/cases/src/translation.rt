@@ -1,0 +1,146 @@
+// A case of the translator: an image, entries and the lengths of both buffers, and the answer with the places and the records that it counts.
+ghost use mathlib.Core.Path.{_≡_};
+ghost use Prim.Native.Nat.{_+_, _*_, _/_, _≤_};
+ghost use lib.ListN.{length};
+use crate::file::Found;
+use crate::file::holds;
+use crate::file::least;
+use crate::file::number;
+use crate::file::padded;
+use crate::file::part;
+use pijorrel_translate::PijorrelAnswer;
+
+// What a case starts with.
+const TAG: u32 = 0x54524E53;
+
+// The most bytes of a place table and of records: two places more than may be found, and two records for each that may.
+const TABLE: usize = 131104;
+
+const LIST: usize = 196608;
+
+// Where the parts of a case start, and how many bytes its image (extent), its entries (size), its places (rows) and its records (bulk) have.
+struct Parts {
+    image: usize,
+    extent: usize,
+    entries: usize,
+    size: usize,
+    places: usize,
+    rows: usize,
+    records: usize,
+    bulk: usize,
+    next: usize,
+}
+
+// How many places or records a case has: those that its answer counts, and none beside a refusal.
+fn counted(answer: u32, count: u32) -> usize
+    ensures { λ r. ⌜ r ≤ 4294967295 ⌝ }
+{
+    if answer == 0 { count as usize } else { 0 }
+}
+
+// The parts of the case at a position: nine numbers, an image, entries, places, records.
+fn locate(bytes: &[u8], at: usize) -> Parts
+    requires { ⌜ at ≤ length (now bytes) + 4 ⌝ }
+    ensures { λ r. ⌜ (r .image ≡ at + 36) × (r .entries ≡ r .image + (r .extent + 3) / 4 * 4) × (r .places ≡ r .entries + (r .size + 3) / 4 * 4) × (r .records ≡ r .places + r .rows) × (r .next ≡ r .records + r .bulk) ⌝ }
+{
+    let extent = number(bytes, at + 4);
+    let size = number(bytes, at + 12);
+    let answer = number(bytes, at + 24);
+    let rows = counted(answer, number(bytes, at + 28)) * 16;
+    let bulk = counted(answer, number(bytes, at + 32)) * 12;
+    let image = at + 36;
+    let entries = image + padded(extent);
+    let places = entries + padded(size);
+    let records = places + rows;
+    Parts {
+        image,
+        extent: extent as usize,
+        entries,
+        size: size as usize,
+        places,
+        rows,
+        records,
+        bulk,
+        next: records + bulk,
+    }
+}
+
+// Whether a position, counted from 1, is that of an entry that is misaligned or outside the image.
+fn names_bad(entries: &[u8], position: u64, base: u32, extent: usize) -> bool {
+    if position == 0 {
+        return false;
+    }
+    let k = position as usize - 1;
+    if entries.len() / 4 <= k {
+        return false;
+    }
+    let entry = number(entries, k * 4);
+    let distance = numbers::subtract(entry, base) as usize;
+    entry % 4 != 0 || extent < distance + 4
+}
+
+// Whether an answer is the known one. Where several entries are bad, the case has 1 as second and any bad position is right.
+fn answers(known: &[u8], entries: &[u8], base: u32, extent: usize, r: PijorrelAnswer) -> bool {
+    let first = number(known, 4) as u64;
+    let second = number(known, 8) as u64;
+    if r.number != number(known, 0) {
+        return false;
+    }
+    if r.number == 3 && second == 1 {
+        return r.second == 0 && names_bad(entries, r.first, base, extent);
+    }
+    r.first == first && r.second == second
+}
+
+// Runs the case that starts at a position, in buffers of its lengths. It has one entry.
+fn check_in(bytes: &[u8], at: usize, table: &mut [u8], list: &mut [u8]) -> Found
+    requires { ⌜ at ≤ length (now bytes) + 4 ⌝ }
+{
+    let base = number(bytes, at + 8);
+    let room = number(bytes, at + 16) as usize;
+    let space = number(bytes, at + 20) as usize;
+    let known = part(bytes, at + 24, 12);
+    let p = locate(bytes, at);
+    let entries = part(bytes, p.entries, p.size);
+    let image = part(bytes, p.image, p.extent);
+    let places = part(bytes, p.places, p.rows);
+    let records = part(bytes, p.records, p.bulk);
+    let r = pijorrel_translate::pijorrel_translate(image, base, entries, table, list);
+    let agrees = number(bytes, at) == TAG
+        && table.len() == room
+        && list.len() == space
+        && answers(known, entries, base, p.extent, r)
+        && holds(table, places, 0)
+        && holds(list, records, 0);
+    Found {
+        next: p.next,
+        entries: agrees as u32,
+        agrees,
+    }
+}
+
+// Buffers that held other bytes before.
+fn used_table() -> [u8; TABLE]
+    ensures { λ r. ⌜ 131104 ≡ length r ⌝ }
+{
+    [0xA5; TABLE]
+}
+
+fn used_list() -> [u8; LIST]
+    ensures { λ r. ⌜ 196608 ≡ length r ⌝ }
+{
+    [0x5A; LIST]
+}
+
+// Runs the case that starts at a position. A case with longer buffers than there are here differs.
+pub fn check(bytes: &[u8], at: usize) -> Found
+    requires { ⌜ at ≤ length (now bytes) + 4 ⌝ }
+{
+    let mut table = used_table();
+    let mut list = used_list();
+    let n = least(number(bytes, at + 16) as usize, table.len());
+    let m = least(number(bytes, at + 20) as usize, list.len());
+    let rows = &mut table[..n];
+    let bulk = &mut list[..m];
+    check_in(bytes, at, rows, bulk)
+}
