@@ -6,16 +6,14 @@
  *
  * The exit status is 0 if both sides agree throughout.
  */
-#define _POSIX_C_SOURCE 199309L
-
 #include "bench.h"
 
 #include <stdio.h>
 #include <stdlib.h>
 #include <string.h>
-#include <time.h>
 
 #include "numbers.h"
+#include "timing.h"
 
 enum {
     ROUNDS = 50, /* short ones, so that some fall into quiet moments of the machine */
@@ -38,25 +36,15 @@ static void begin(const struct core *core, const struct program *program, struct
     side->best = 1e9;
 }
 
-/* The time that this process was given, so that others on the machine count less. */
-static double seconds(void)
-{
-    struct timespec now;
-    clock_gettime(CLOCK_PROCESS_CPUTIME_ID, &now);
-    return (double)now.tv_sec + (double)now.tv_nsec * 1e-9;
-}
-
 static void round_of(run_function *run, const struct program *program, struct side *side)
 {
-    double start = seconds(), took;
+    double start = seconds();
     for (uint32_t left = STEPS_A_ROUND; left > 0;) {
         uint16_t count = left < COUNT ? (uint16_t)left : COUNT;
         run(program, side->state, side->data, DATA_LENGTH, count);
         left -= count;
     }
-    took = seconds() - start;
-    if (took < side->best)
-        side->best = took;
+    keep_best(&side->best, start);
 }
 
 /* Both sides are still going, with equal states and data. */
@@ -72,7 +60,6 @@ static bool measure(const struct core *core, int number, int rounds)
     static struct side library, rival;
     struct loop loop = loop_at(number);
     struct program program = core->program_of(number, &loop);
-    double library_ns, rival_ns;
     begin(core, &program, &library);
     begin(core, &program, &rival);
     for (int i = 0; i < rounds; i++) {
@@ -83,9 +70,7 @@ static bool measure(const struct core *core, int number, int rounds)
         printf("%-10s  the two sides differ, or the loop ended\n", loop.name);
         return false;
     }
-    library_ns = library.best * 1e9 / STEPS_A_ROUND;
-    rival_ns = rival.best * 1e9 / STEPS_A_ROUND;
-    printf("%-10s  %10.2f  %10.2f  %9.2f\n", loop.name, library_ns, rival_ns, library_ns / rival_ns);
+    print_row(loop.name, library.best * 1e9 / STEPS_A_ROUND, rival.best * 1e9 / STEPS_A_ROUND);
     return true;
 }
 
@@ -94,7 +79,7 @@ static int benchmark(const struct core *core)
     bool good = true;
     printf("%s, nanoseconds a step: the best of %d rounds of %d steps on each side, in turn\n",
            core->name, ROUNDS, STEPS_A_ROUND);
-    printf("%-10s  %10s  %10s  %9s\n", "loop", "library", "C", "library/C");
+    print_heading("loop");
     for (int i = 0; i < LOOPS; i++)
         good = measure(core, i, ROUNDS) && good;
     return good ? EXIT_SUCCESS : EXIT_FAILURE;

@@ -6,6 +6,7 @@
 
 #include "loops.h"
 #include "pijorrel.h"
+#include "vectors.h"
 
 /* What a core is given beside its state and data: the old core the image, the new core places, records and the
  * image's length. */
@@ -17,17 +18,6 @@ struct program {
 
 typedef struct pijorrel_end run_function(const struct program *program, uint8_t *state,
                                          uint8_t *data, size_t data_length, uint16_t count);
-
-/* A vectors file being read: numbers of four bytes, areas padded to a multiple of four. */
-struct reader {
-    const uint8_t *bytes;
-    size_t length;
-    size_t at;
-    bool short_of; /* something was read past the end */
-};
-
-uint32_t take_number(struct reader *reader);
-const uint8_t *take_area(struct reader *reader, size_t length);
 
 /* The longer of both cores' states. */
 enum { STATE_LIMIT = PIJORREL_OLD_STATE };

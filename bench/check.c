@@ -1,30 +1,10 @@
 /* Holds both sides of a core to the cases of a vectors file. */
 #include "bench.h"
 
-#include <inttypes.h>
-#include <stdio.h>
 #include <stdlib.h>
 #include <string.h>
 
 #include "numbers.h"
-
-const uint8_t *take_area(struct reader *reader, size_t length)
-{
-    const uint8_t *from = reader->bytes + reader->at;
-    size_t padded = (length + 3) / 4 * 4;
-    if (padded > reader->length - reader->at) {
-        reader->short_of = true;
-        return NULL;
-    }
-    reader->at += padded;
-    return from;
-}
-
-uint32_t take_number(struct reader *reader)
-{
-    const uint8_t *from = take_area(reader, 4);
-    return from ? word_at(from) : 0;
-}
 
 struct vector {
     struct program program;
@@ -61,64 +41,23 @@ static bool agrees(const struct core *core, run_function *run, const struct vect
         && end.end == word_at(known) && end.number == word_at(known + 4);
 }
 
-/* Counts the cases where each side agrees; false if the file is damaged. */
-static bool check_cases(const struct core *core, struct reader *reader, uint32_t cases,
-                        uint32_t *library, uint32_t *rival)
+static bool check_case(const void *subject, struct reader *reader, struct agreement *agreement)
 {
+    const struct core *core = subject;
     struct vector v;
-    for (uint32_t i = 0; i < cases; i++) {
-        uint8_t *data;
-        if (!take_vector(core, reader, &v))
-            return false;
-        data = malloc((size_t)v.data_length + 1);
-        if (!data)
-            return false;
-        *library += agrees(core, core->library, &v, data);
-        *rival += agrees(core, core->rival, &v, data);
-        free(data);
-    }
-    return reader->at == reader->length;
-}
-
-/* Reads a whole file into memory of exactly its length. */
-static uint8_t *whole_file(const char *path, size_t *length)
-{
-    FILE *file = fopen(path, "rb");
-    uint8_t *bytes = NULL;
-    long size;
-    if (!file)
-        return NULL;
-    if (fseek(file, 0, SEEK_END) == 0 && (size = ftell(file)) > 0 && fseek(file, 0, SEEK_SET) == 0) {
-        *length = (size_t)size;
-        bytes = malloc(*length);
-        if (bytes && fread(bytes, 1, *length, file) != *length) {
-            free(bytes);
-            bytes = NULL;
-        }
-    }
-    fclose(file);
-    return bytes;
+    uint8_t *data;
+    if (!take_vector(core, reader, &v))
+        return false;
+    data = malloc((size_t)v.data_length + 1);
+    if (!data)
+        return false;
+    agreement->library += agrees(core, core->library, &v, data);
+    agreement->rival += agrees(core, core->rival, &v, data);
+    free(data);
+    return true;
 }
 
 int check(const struct core *core, const char *path)
 {
-    struct reader reader = { 0 };
-    uint32_t cases, library = 0, rival = 0;
-    bool whole;
-    uint8_t *bytes = whole_file(path, &reader.length);
-    if (!bytes) {
-        fprintf(stderr, "cannot read %s\n", path);
-        return EXIT_FAILURE;
-    }
-    reader.bytes = bytes;
-    cases = take_number(&reader);
-    whole = check_cases(core, &reader, cases, &library, &rival);
-    free(bytes);
-    if (!whole) {
-        fprintf(stderr, "%s is not a whole file of %s vectors\n", path, core->name);
-        return EXIT_FAILURE;
-    }
-    printf("%s: of %" PRIu32 " cases the library agrees in %" PRIu32 ", C in %" PRIu32 "\n",
-           core->name, cases, library, rival);
-    return cases > 0 && library == cases && rival == cases ? EXIT_SUCCESS : EXIT_FAILURE;
+    return check_file(path, core->name, check_case, core);
 }

@@ -7,21 +7,12 @@
 #include <stddef.h>
 #include <stdint.h>
 
+#include "document.h"
+#include "fields.h"
 #include "machine.h"
 #include "numbers.h"
-#include "v8.h"
 
 #define DATA_LIMIT 65536u
-
-enum end {
-    END_TRAP = 1,
-    END_OUTSIDE = 2,
-    END_ILLEGAL = 3,
-    END_MISALIGNED = 4,
-    END_UNFIT = 5,
-    END_NO_PLACE = 6,
-    END_BAD_RECORD = 7
-};
 
 /* One bit for each flag value, lowest first. */
 static const uint16_t conditions[16] = {
@@ -41,21 +32,7 @@ static inline struct area data_area(uint8_t *data, size_t length, uint32_t base)
     return (struct area){ data, length < DATA_LIMIT ? length : DATA_LIMIT, base };
 }
 
-/* ---- fields of a word */
-
-/* Spreads the given sign bit over the bits above it. */
-static inline uint32_t extended(uint32_t value, uint32_t sign)
-{
-    return (value ^ sign) - sign;
-}
-
-static inline uint32_t rd(uint32_t word) { return word >> 25 & 31; }
-static inline uint32_t rs1(uint32_t word) { return word >> 14 & 31; }
-static inline uint32_t op2(uint32_t word) { return word >> 22 & 7; }
-static inline uint32_t op3(uint32_t word) { return word >> 19 & 63; }
-static inline uint32_t cond(uint32_t word) { return word >> 25 & 15; }
-static inline uint32_t annul_bit(uint32_t word) { return word >> 29 & 1; }
-static inline uint32_t disp22(uint32_t word) { return extended(word & 0x3FFFFF, 0x200000) << 2; }
+/* ---- the second operand */
 
 static inline uint32_t operand(const struct machine *m, uint32_t word)
 {

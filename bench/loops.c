@@ -2,59 +2,8 @@
  * bench/translate makes the translations again. */
 #include "loops.h"
 
-#include <stdbool.h>
-
 #include "numbers.h"
-#include "v8.h"
-
-/* ---- words, built from their fields */
-
-static uint32_t with_register(uint32_t format, uint32_t op3, uint32_t rd, uint32_t rs1, uint32_t rs2)
-{
-    return format << 30 | rd << 25 | op3 << 19 | rs1 << 14 | rs2;
-}
-
-static uint32_t with_constant(uint32_t format, uint32_t op3, uint32_t rd, uint32_t rs1, int constant)
-{
-    return with_register(format, op3, rd, rs1, 1u << 13 | ((uint32_t)constant & 0x1FFF));
-}
-
-static uint32_t compute(uint32_t op3, uint32_t rd, uint32_t rs1, uint32_t rs2)
-{
-    return with_register(FORMAT_ARITHMETIC, op3, rd, rs1, rs2);
-}
-
-static uint32_t compute_constant(uint32_t op3, uint32_t rd, uint32_t rs1, int constant)
-{
-    return with_constant(FORMAT_ARITHMETIC, op3, rd, rs1, constant);
-}
-
-static uint32_t access(uint32_t op3, uint32_t rd, uint32_t rs1, uint32_t rs2)
-{
-    return with_register(FORMAT_MEMORY, op3, rd, rs1, rs2);
-}
-
-static uint32_t access_constant(uint32_t op3, uint32_t rd, uint32_t rs1, int constant)
-{
-    return with_constant(FORMAT_MEMORY, op3, rd, rs1, constant);
-}
-
-static uint32_t branch(uint32_t condition, bool annul, int words)
-{
-    return (uint32_t)annul << 29 | condition << 25 | (uint32_t)OP2_BICC << 22 | ((uint32_t)words & 0x3FFFFF);
-}
-
-static uint32_t call(int words)
-{
-    return (uint32_t)FORMAT_CALL << 30 | ((uint32_t)words & 0x3FFFFFFF);
-}
-
-static uint32_t sethi(uint32_t rd, uint32_t value)
-{
-    return rd << 25 | (uint32_t)OP2_SETHI << 22 | value >> 10;
-}
-
-/* ---- the three loops; none of them ends */
+#include "words.h"
 
 static struct loop loop_of(const char *name, const uint32_t *words, size_t count)
 {

@@ -2,18 +2,6 @@
 #include "new_core.h"
 #include "effect.h"
 
-enum kind {
-    KIND_WORD = 1,
-    KIND_LINK = 2,
-    KIND_HOLD = 3,
-    KIND_GO_IF = 4,
-    KIND_GO = 5,
-    KIND_GO_HELD = 6,
-    KIND_END = 7
-};
-
-enum { RECORD_BYTES = 12, PLACE_BYTES = 16 };
-
 /* What the core is given beside its state and the data. */
 struct program {
     const uint8_t *records;

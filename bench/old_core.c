@@ -26,7 +26,7 @@ static inline void execute(struct rival_old_state *s, uint32_t word, const struc
         break;
     case FORMAT_CALL:
         put_register(&s->m, 15, s->pc);
-        next = s->pc + (word << 2);
+        next = s->pc + disp30(word);
         break;
     case FORMAT_ARITHMETIC:
         switch (arithmetic(&s->m, word)) {

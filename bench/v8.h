@@ -38,6 +38,6 @@ enum v8_memory {
     OP3_LDSH = 0x0A
 };
 
-enum v8_condition { COND_E = 1, COND_ALWAYS = 8, COND_NE = 9 };
+enum v8_condition { COND_NEVER = 0, COND_E = 1, COND_ALWAYS = 8, COND_NE = 9 };
 
 #endif
