@@ -1,0 +1,26 @@
+/* Images to measure the translator on, made by rule, with base and only entry 0. */
+#ifndef SAMPLES_H
+#define SAMPLES_H
+
+#include <stddef.h>
+#include <stdint.h>
+
+enum {
+    SAMPLES = 13,
+    SAMPLE_WORDS = 4096, /* the most */
+    PLACES_ROOM = 16 * 8193,
+    RECORDS_ROOM = 12 * 16384
+};
+
+struct sample {
+    char name[20]; /* the kind and the words, as in straight_16 */
+    size_t words;
+    uint8_t image[4 * SAMPLE_WORDS];
+    uint32_t number;                       /* of the answer: 0, or 5 */
+    size_t places_length, records_length; /* lent; both are filled, if the answer is 0 */
+};
+
+/* Six sizes of straight code, the same six of conditional branches, and branches refused at the 8,193rd place. */
+void make_sample(struct sample *sample, int number);
+
+#endif
