@@ -125,14 +125,15 @@ static inline uint32_t find(const struct table *table, uint32_t p, uint32_t n, u
 /* Gives a place the next number, unless it is present; false where there is no room for it. */
 static bool add(struct table *table, uint32_t p, uint32_t n, uint32_t kind)
 {
-    uint8_t *row = table->rows + (size_t)table->count * PLACE_BYTES;
     uint32_t h = hash(p, n, kind);
+    uint8_t *row;
     if (find(table, p, n, kind) < table->count)
         return true;
     if (table->count == table->room) {
         table->unplaced = p;
         return false;
     }
+    row = table->rows + (size_t)table->count * PLACE_BYTES;
     put_word(row, p);
     put_word(row + 4, n);
     put_word(row + 8, kind);
