@@ -2,7 +2,8 @@
  *
  * Numbers inside byte areas have four bytes, big-endian. Lent areas must not overlap. No call keeps a pointer,
  * allocates, or fails to return. Every value of every argument is allowed; what each call answers and leaves in
- * the areas lent to it is proved for all of them.
+ * the areas lent to it is proved for all of them. No call takes more than 1 KiB of stack but pijorrel_translate, which
+ * takes less than 50 KiB, 48 of them for its index (measured on x86-64, in tests/stack).
  */
 #ifndef PIJORREL_H
 #define PIJORREL_H
@@ -79,7 +80,7 @@ struct pijorrel_answer {
 
 /* Translates an image from its entries, four bytes each, into a place table and records. On acceptance the bytes past
  * the last number used are 0, on a refusal all bytes of both buffers. A tail too short for a whole entry, place or
- * record is not counted. Its index takes 48 KiB of the stack. */
+ * record is not counted. */
 struct pijorrel_answer pijorrel_translate(const uint8_t *image, size_t image_length, uint32_t base,
                                           const uint8_t *entries, size_t entries_length, uint8_t *places,
                                           size_t places_length, uint8_t *records, size_t records_length);
