@@ -19,6 +19,16 @@ pub struct Start {
 }
 
 impl Start {
+    /// With the start values, and no data.
+    pub fn at(address: u32) -> Start {
+        Start {
+            address,
+            registers: [0; 32],
+            flags: 0,
+            data: vec![],
+        }
+    }
+
     pub fn machine(&self) -> Machine {
         Machine::of(self.registers, Flags::of_number(self.flags))
     }

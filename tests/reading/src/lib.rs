@@ -24,7 +24,9 @@ pub mod trails;
 pub mod interface;
 pub mod state;
 
+pub mod couples;
 pub mod random;
 
 pub mod edges;
 pub mod files;
+pub mod cases;

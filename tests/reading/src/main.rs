@@ -24,10 +24,12 @@
 //!   base BASE
 //!   data_base BASE
 //!   entries ENTRY...                    maybe none
+//!   image_tail BYTE...                  after the words, mostly none
+//!   entries_tail BYTE...                after the entries, mostly none
 //!   places_length BYTES                 of the lent place table
 //!   records_length BYTES                of the lent record buffer
 //!   address ADDRESS                     where both cores begin
-//!   registers R0 ... R31                R0 is 0
+//!   registers R0 ... R31                R0 any number; it counts as 0
 //!   flags NUMBER                        8N + 4Z + 2V + C
 //!   data BYTE...                        maybe none
 //!   cut K                               1 to 12
@@ -38,15 +40,23 @@
 //! * old ADDRESS R0 ... R31 FLAGS BYTE...   an entry of the old core's trail
 //!   old_close END NUMBER
 //!   old_steps STEPS...                  from each entry to the next; the last, to the close
+//!   old_next ADDRESS...                 nPC at each entry
 //! * new ADDRESS R0 ... R31 FLAGS BYTE...   an entry of the new core's trail over the translation
 //! ? new_close END NUMBER                only for an accepted image
 //! ? new_steps STEPS...
+//! ? malformed_places BYTE...            for about half of the accepted images: a damaged place table
+//! ? malformed_records BYTE...           and damaged records
+//! ? malformed_count COUNT               of the run over them
+//! * malformed ADDRESS R0 ... R31 FLAGS BYTE...   an entry of that run's trail
+//! ? malformed_close END NUMBER          0 0 where the count was done
+//! ? malformed_steps STEPS...
 //!   done
 //! ```
 //!
 //! Past the places and records shown, both lent buffers hold zeros. An accepted image's start has a plain
 //! place; a refused one's may be any address. The steps to the close are those up to the point where entry
-//! K + 1 would come, or up to the end, the step that ended the run included.
+//! K + 1 would come, or up to the end, the step that ended the run included. Every second case begins at a
+//! transfer of control with another in its delay slot: all pairings in turn, in 144 cases.
 //!
 //! `translate` prints the lines answer, bad, place and record of such a case; the lent buffers have room for
 //! 8,192 places and all of their records.
@@ -56,20 +66,20 @@ use std::env;
 use std::io::{self, BufWriter, Read, Write};
 use std::process::ExitCode;
 
+use reading::cases::{random_case, Asked, Malformed};
 use reading::claim::{check, Accepted, Start};
+use reading::couples::Transfer;
 use reading::edges::{edges_file, listings_file};
 use reading::files::{pad, translate_case};
 use reading::interface::{new_run_call, old_run_call};
-use reading::machine::Area;
 use reading::new_core;
-use reading::old_core::{self, Image};
+use reading::old_core::Image;
 use reading::places::made_by_the_rules;
 use reading::random::{
-    other_start, random_accepted, random_address, random_lengths, random_new_run_call,
-    random_old_run_call, random_plain, random_program, random_start, random_translate_call,
-    spoil_entries, Program, Random,
+    other_start, random_accepted, random_new_run_call, random_old_run_call, random_start,
+    random_translate_call, Program, Random,
 };
-use reading::trails::{old_trail, Entry, Trail};
+use reading::trails::{Entry, Trail};
 use reading::translator::{answers, bytes, translate, Refusal, Translation};
 
 fn main() -> ExitCode {
@@ -112,92 +122,6 @@ fn main() -> ExitCode {
             eprintln!("       reading translate BASE ENTRY... < IMAGE");
             ExitCode::from(2)
         }
-    }
-}
-
-/// A case as `cases` prints it.
-struct Case {
-    program: Program,
-    places_length: usize,
-    records_length: usize,
-    start: Start,
-    cut: usize,
-    outcome: Result<Translation, Refusal>,
-    old: Trail,
-    new: Option<Trail>,
-}
-
-fn random_case(random: &mut Random) -> Case {
-    let mut program = random_program(random);
-    if random.chance(5) {
-        spoil_entries(random, &mut program);
-    }
-    let (places_length, records_length) = match program.translate() {
-        Ok(translation) if random.chance(60) => {
-            (translation.rows.len() * 16, translation.records.len() * 12)
-        }
-        _ => random_lengths(random, &program),
-    };
-    if random.chance(1) {
-        program.words.clear();
-    }
-    if random.chance(1) {
-        program.base = program.base.wrapping_add(random.pick(&[1, 2, 3]));
-    }
-    let image_bytes = program.image_bytes();
-    let image = Image {
-        bytes: &image_bytes,
-        base: program.base,
-    };
-    let entry_bytes = program.entry_bytes();
-    let outcome = translate(image, &entry_bytes, places_length, records_length);
-    let plain = program.plain_addresses();
-    let address = match outcome {
-        Ok(_) => random_plain(random, &program, &plain),
-        Err(_) if program.words.is_empty() => random.pick(&[0, program.base, 2]),
-        Err(_) => random_address(random, &program, &plain),
-    };
-    let mut start = if program.words.is_empty() {
-        Start {
-            address,
-            registers: [0; 32],
-            flags: random.below(16),
-            data: vec![],
-        }
-    } else {
-        random_start(random, &program, &plain, address)
-    };
-    start.registers[0] = 0;
-    let cut = random.between(1, 12) as usize;
-
-    let mut data = start.data.clone();
-    let mut area = Area::lent(program.data_base, &mut data);
-    let state = old_core::begin(start.machine(), start.address);
-    let old = old_trail(image, state, &mut area, cut);
-    let new = outcome.as_ref().ok().map(|translation| {
-        let made = made_by_the_rules(image, &program.entries);
-        Accepted {
-            image,
-            program: new_core::Program {
-                records: &translation.record_bytes(),
-                places: &translation.place_bytes(),
-                base: program.base,
-                image_length: image_bytes.len() as u32,
-            },
-            made: &made,
-            data_base: program.data_base,
-        }
-        .new_trail(&start, cut)
-    });
-    Case {
-        program,
-        places_length,
-        records_length,
-        start,
-        cut,
-        outcome,
-        old,
-        new,
     }
 }
 
@@ -248,42 +172,59 @@ fn print_program(out: &mut impl Write, program: &Program) -> io::Result<()> {
     line(out, "entries", &program.entries)
 }
 
+fn print_asked(out: &mut impl Write, asked: &Asked) -> io::Result<()> {
+    print_program(out, &asked.program)?;
+    line(out, "image_tail", &asked.image_tail)?;
+    line(out, "entries_tail", &asked.entries_tail)?;
+    line(out, "places_length", [asked.places_length])?;
+    line(out, "records_length", [asked.records_length])?;
+    print_start(out, &asked.start)?;
+    line(out, "cut", [asked.cut])
+}
+
 fn print_outcome(out: &mut impl Write, outcome: &Result<Translation, Refusal>) -> io::Result<()> {
     let answer = answers(outcome)[0];
     let numbers = [answer.number as u64, answer.first, answer.second];
     line(out, "answer", numbers)?;
-    match outcome {
-        Err(Refusal::Entries(positions)) => line(out, "bad", positions)?,
-        Err(_) => {}
-        Ok(translation) => {
-            for row in &translation.rows {
-                let numbers = [row.address, row.next, row.kind, row.first_record];
-                line(out, "place", numbers)?;
-            }
-            for record in &translation.records {
-                let numbers = [record.kind, record.first, record.second];
-                line(out, "record", numbers)?;
-            }
-        }
+    if let Err(Refusal::Entries(positions)) = outcome {
+        line(out, "bad", positions)?;
+    }
+    let Ok(translation) = outcome else {
+        return Ok(());
+    };
+    for row in &translation.rows {
+        let numbers = [row.address, row.next, row.kind, row.first_record];
+        line(out, "place", numbers)?;
+    }
+    for record in &translation.records {
+        let numbers = [record.kind, record.first, record.second];
+        line(out, "record", numbers)?;
     }
     Ok(())
+}
+
+fn print_malformed(out: &mut impl Write, malformed: &Malformed) -> io::Result<()> {
+    line(out, "malformed_places", &malformed.places)?;
+    line(out, "malformed_records", &malformed.records)?;
+    line(out, "malformed_count", [malformed.count])?;
+    print_trail(out, "malformed", &malformed.trail)
 }
 
 fn cases(seed: u64, count: u64) -> io::Result<ExitCode> {
     let mut random = Random::new(seed);
     let mut out = BufWriter::new(io::stdout().lock());
     for position in 0..count {
-        let case = random_case(&mut random);
+        let case = random_case(&mut random, position);
         line(&mut out, "case", [position])?;
-        print_program(&mut out, &case.program)?;
-        line(&mut out, "places_length", [case.places_length])?;
-        line(&mut out, "records_length", [case.records_length])?;
-        print_start(&mut out, &case.start)?;
-        line(&mut out, "cut", [case.cut])?;
+        print_asked(&mut out, &case.asked)?;
         print_outcome(&mut out, &case.outcome)?;
         print_trail(&mut out, "old", &case.old)?;
+        line(&mut out, "old_next", &case.old.nexts)?;
         if let Some(new) = &case.new {
             print_trail(&mut out, "new", new)?;
+        }
+        if let Some(malformed) = &case.malformed {
+            print_malformed(&mut out, malformed)?;
         }
         writeln!(out, "done")?;
     }
@@ -371,8 +312,8 @@ fn claim(seed: u64, count: u64) -> io::Result<ExitCode> {
 fn census(seed: u64, count: u64) -> io::Result<ExitCode> {
     let mut random = Random::new(seed);
     let mut met: BTreeMap<String, u64> = BTreeMap::new();
-    for _ in 0..count {
-        let case = random_case(&mut random);
+    for position in 0..count {
+        let case = random_case(&mut random, position);
         let mut meet = |what: String| *met.entry(what).or_default() += 1;
         meet(format!("answer {}", answers(&case.outcome)[0].number));
         meet(format!("old trail closed with {}", case.old.close.0));
@@ -394,12 +335,12 @@ fn census(seed: u64, count: u64) -> io::Result<ExitCode> {
                 }
             }
             for row in translation.rows.iter().filter(|row| row.kind == 1) {
-                let offset = row.address.wrapping_sub(case.program.base) / 4;
-                let word = case.program.words.get(offset as usize).copied();
+                let offset = row.address.wrapping_sub(case.asked.program.base) / 4;
+                let word = case.asked.program.words.get(offset as usize).copied();
                 meet(format!("slot place with {}", name(word)));
             }
         }
-        for pair in case.program.words.windows(2) {
+        for pair in case.asked.program.words.windows(2) {
             let names = (name(Some(pair[0])), name(Some(pair[1])));
             if names.0 != "another word" && names.1 != "another word" {
                 meet(format!("pair {} then {}", names.0, names.1));
@@ -415,22 +356,8 @@ fn census(seed: u64, count: u64) -> io::Result<ExitCode> {
 
 /// The name of a word that transfers control, for the census.
 fn name(word: Option<u32>) -> &'static str {
-    use reading::words::{decode, Instruction};
-    match word.and_then(decode) {
-        Some(Instruction::Call { .. }) => "call",
-        Some(Instruction::Jmpl { .. }) => "jmpl",
-        Some(Instruction::Bicc {
-            condition, annul, ..
-        }) => match (condition, annul) {
-            (0, false) => "bn",
-            (0, true) => "bn,a",
-            (8, false) => "ba",
-            (8, true) => "ba,a",
-            (_, false) => "bcc",
-            (_, true) => "bcc,a",
-        },
-        _ => "another word",
-    }
+    word.and_then(Transfer::of)
+        .map_or("another word", Transfer::name)
 }
 
 /// Random calls with their answers, in the format of the files of cases: numbers of four bytes, big-endian;

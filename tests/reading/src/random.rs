@@ -1,6 +1,7 @@
 //! Random images, entry lists, starts and calls, each determined by a seed.
 
 use crate::claim::Start;
+use crate::new_core::number;
 use crate::old_core::{lies_in_image, Image};
 use crate::places::{made_by_the_rules, walk, Place, Stop};
 use crate::state::{NEW_STATE, OLD_STATE};
@@ -47,7 +48,7 @@ impl Random {
     }
 
     /// The position of one of the weights.
-    fn weighted(&mut self, weights: &[u32]) -> usize {
+    pub fn weighted(&mut self, weights: &[u32]) -> usize {
         let mut left = self.below(weights.iter().sum());
         for (position, weight) in weights.iter().enumerate() {
             if left < *weight {
@@ -141,7 +142,7 @@ impl Program {
         addresses
     }
 
-    fn address(&self, position: i32) -> u32 {
+    pub fn address(&self, position: i32) -> u32 {
         self.base.wrapping_add((position as u32).wrapping_mul(4))
     }
 }
@@ -215,6 +216,21 @@ fn displacement(random: &mut Random, position: i32, count: i32) -> u32 {
     (target - position) as u32
 }
 
+pub(crate) fn random_bicc(
+    random: &mut Random,
+    condition: u32,
+    annul: u32,
+    position: i32,
+    count: i32,
+) -> u32 {
+    let field = displacement(random, position, count) & 0x3F_FFFF;
+    (annul << 29) | (condition << 25) | (2 << 22) | field
+}
+
+pub(crate) fn random_call(random: &mut Random, position: i32, count: i32) -> u32 {
+    (1 << 30) | (displacement(random, position, count) & 0x3FFF_FFFF)
+}
+
 fn random_word(random: &mut Random, style: &[u32; 9], position: i32, program: &Program) -> u32 {
     let count = program.words.len() as i32;
     match random.weighted(style) {
@@ -225,10 +241,9 @@ fn random_word(random: &mut Random, style: &[u32; 9], position: i32, program: &P
                 _ => random.below(16),
             };
             let annul = random.below(2);
-            let field = displacement(random, position, count) & 0x3F_FFFF;
-            (annul << 29) | (condition << 25) | (2 << 22) | field
+            random_bicc(random, condition, annul, position, count)
         }
-        CALL => (1 << 30) | (displacement(random, position, count) & 0x3FFF_FFFF),
+        CALL => random_call(random, position, count),
         JMPL => random_jmpl(random, program),
         TICC => {
             let condition = if random.chance(40) {
@@ -323,7 +338,7 @@ fn random_access(random: &mut Random, op3: u32, rd: u32, program: &Program) -> u
 
 /// A jmpl by a register that mostly holds an address of the image, by the return register, or to a
 /// constant address.
-fn random_jmpl(random: &mut Random, program: &Program) -> u32 {
+pub(crate) fn random_jmpl(random: &mut Random, program: &Program) -> u32 {
     let count = program.words.len() as i32;
     let rs1 = random.pick(&ADDRESS_REGISTERS);
     let rd = match random.weighted(&[45, 20, 15, 20]) {
@@ -452,7 +467,7 @@ pub fn random_program(random: &mut Random) -> Program {
 }
 
 /// Replaces the word of each refusal 4 by one that a held place may have.
-fn allow_held_places(random: &mut Random, program: &mut Program) {
+pub(crate) fn allow_held_places(random: &mut Random, program: &mut Program) {
     while let Err(Refusal::ForbiddenWord(address)) = program.translate() {
         let position = (address.wrapping_sub(program.base) / 4) as i32;
         let word = if random.chance(15) {
@@ -542,18 +557,40 @@ pub fn spoil_entries(random: &mut Random, program: &mut Program) {
     }
 }
 
-/// The lengths of both buffers, in bytes: large enough, exact, with a tail, one item or one byte short.
-pub fn random_lengths(random: &mut Random, program: &Program) -> (usize, usize) {
-    let (places, records) = match program.translate() {
+/// How many places and records a program needs.
+fn needs(random: &mut Random, program: &Program) -> (usize, usize) {
+    match program.translate() {
         Ok(translation) => (translation.rows.len(), translation.records.len()),
         // The table in which the walk just reaches its refusal 4; one place less is refusal 5.
         Err(Refusal::ForbiddenWord(_)) => (program.room_for_the_walk(), random.below(20) as usize),
         Err(_) => (random.below(12) as usize, random.below(20) as usize),
-    };
+    }
+}
+
+/// The lengths of both buffers, in bytes: large enough, exact, with a tail, one item or one byte short.
+pub fn random_lengths(random: &mut Random, program: &Program) -> (usize, usize) {
+    let (places, records) = needs(random, program);
     (
         random_length(random, places, 16),
         random_length(random, records, 12),
     )
+}
+
+/// The lengths of buffers that are not short.
+pub fn ample_lengths(random: &mut Random, program: &Program) -> (usize, usize) {
+    let (places, records) = needs(random, program);
+    (
+        places * 16 + random_excess(random, 16),
+        records * 12 + random_excess(random, 12),
+    )
+}
+
+fn random_excess(random: &mut Random, size: u32) -> usize {
+    if random.chance(40) {
+        random.below(3 * size) as usize
+    } else {
+        0
+    }
 }
 
 fn random_length(random: &mut Random, count: usize, size: usize) -> usize {
@@ -681,13 +718,7 @@ pub fn random_new_run_call(random: &mut Random) -> NewRunCall {
     let mut records = translation.record_bytes();
     let mut places = translation.place_bytes();
     if random.chance(50) {
-        for _ in 0..random.pick(&[1, 1, 2, 4]) {
-            if random.chance(70) {
-                damage(random, &mut records, 12);
-            } else {
-                damage(random, &mut places, 16);
-            }
-        }
+        damage_some(random, &mut records, &mut places);
     }
     let record = match random.weighted(&[70, 25, 5]) {
         0 => random.pick(&translation.rows).first_record,
@@ -719,6 +750,33 @@ pub fn random_new_run_call(random: &mut Random) -> NewRunCall {
         data: start.data,
         count: random_count(random),
     }
+}
+
+/// Damages records and place table.
+pub fn damage_some(random: &mut Random, records: &mut Vec<u8>, places: &mut Vec<u8>) {
+    for _ in 0..random.pick(&[1, 1, 2, 4]) {
+        if random.chance(70) {
+            damage(random, records, 12);
+        } else {
+            damage(random, places, 16);
+        }
+    }
+}
+
+/// Has a row name another first record: another row's, or one at the end of the records or past it.
+pub fn rename_first_record(random: &mut Random, places: &mut [u8], record_count: u32) {
+    let rows = places.len() as u32 / 16;
+    if rows == 0 {
+        return;
+    }
+    let other = random.below(rows) as usize;
+    let named = if random.chance(50) {
+        number(places, 4 * other + 3)
+    } else {
+        record_count.wrapping_add_signed(random.between(-1, 2))
+    };
+    let position = 16 * random.below(rows) as usize + 12;
+    places[position..position + 4].copy_from_slice(&named.to_be_bytes());
 }
 
 /// Changes a number of a table, cuts it or adds a tail.

@@ -30,6 +30,8 @@ pub struct Trail {
     /// How many steps the core did from each entry to the next; the last number is that of the steps
     /// from the last entry to the close.
     pub steps: Vec<u32>,
+    /// Of the old core: the next of each entry's place. No part of the trail.
+    pub nexts: Vec<u32>,
     /// Of the new core: the last entry is one that a kind 6, or a start, without a place gained.
     pub landed: bool,
 }
@@ -40,6 +42,7 @@ impl Trail {
             entries: vec![],
             close: (0, 0),
             steps: vec![],
+            nexts: vec![],
             landed: false,
         }
     }
@@ -76,9 +79,12 @@ pub fn old_trail(image: Image, mut state: OldState, area: &mut Area, cut: usize)
             trail.close = state.end.numbers();
             return trail;
         }
-        if !state.annul && !trail.gain(entry(state.pc, &state.machine, area), cut) {
-            trail.close = (0, 0);
-            return trail;
+        if !state.annul {
+            if !trail.gain(entry(state.pc, &state.machine, area), cut) {
+                trail.close = (0, 0);
+                return trail;
+            }
+            trail.nexts.push(state.npc);
         }
         old_core::step(image, &mut state, area);
         trail.count_step();
@@ -100,10 +106,9 @@ pub fn new_begun(program: Program, machine: Machine, address: u32) -> NewBegun {
 }
 
 /// "An entry also stands before each group's first record; its address is its place's, in a malformed
-/// table that of the lowest-numbered place naming that record". Past the last record there is no record,
-/// so no entry stands there.
+/// table that of the lowest-numbered place naming that record". Past the last record one stands too, where
+/// a row names that number: the old core's trail has entries outside the image as well.
 fn marked(program: Program, state: &NewState) -> Option<u32> {
-    program.record(state.record)?;
     program
         .rows()
         .find(|row| row.first_record == state.record)

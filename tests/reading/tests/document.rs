@@ -265,6 +265,44 @@ fn a_landing_without_a_place() {
     assert_eq!((addresses(&trail), trail.close), (vec![12], (6, 12)));
 }
 
+/// Rows that name a record past the last, and two that name one record: an entry stands before the step, of
+/// the lowest-numbered row.
+#[test]
+fn entries_in_a_malformed_table() {
+    let records = bytes([5, 2, 0, 5, 3, 0]);
+    // address, next, kind, first record
+    let rows = [
+        [8, 12, 0, 0],
+        [24, 28, 0, 3],
+        [16, 20, 0, 2],
+        [20, 24, 1, 2],
+    ];
+    let places = bytes(rows.concat());
+    let program = Program {
+        records: &records,
+        places: &places,
+        base: 0,
+        image_length: 64,
+    };
+    // Past the last record, the first and the second.
+    for (start, expected, steps, end) in [
+        (8, vec![8, 16], vec![1, 1], (7, 2)),
+        (24, vec![24], vec![1], (7, 3)),
+        (16, vec![16], vec![1], (7, 2)),
+    ] {
+        let begun = new_begun(program, Machine::start(), start);
+        let trail = new_trail_of_run(program, begun, &mut Area::lent(0, &mut []), 5);
+        assert_eq!((addresses(&trail), trail.close), (expected, end));
+        assert_eq!(trail.steps, steps);
+    }
+    // A count that is done before the end closes with 0, and no entry stands where no step follows.
+    for (count, expected) in [(0, vec![]), (1, vec![8])] {
+        let begun = new_begun(program, Machine::start(), 8);
+        let trail = new_trail_of_run(program, begun, &mut Area::lent(0, &mut []), count);
+        assert_eq!((addresses(&trail), trail.close), (expected, (0, 0)));
+    }
+}
+
 /// The closure by the rules and the walk find the same places.
 #[test]
 fn walk_and_rules_agree() {
