@@ -1,10 +1,13 @@
 //! Files of cases: numbers of four bytes, big-endian; a byte area is padded with zeros to a multiple of four.
 //! The first number is how many cases follow.
 
-use crate::interface::translate_call;
+use crate::interface::{
+    new_begin_call, new_run_call, old_begin_call, old_run_call, translate_call,
+};
 use crate::listing::listing;
+use crate::new_core::Program;
 use crate::old_core::Image;
-use crate::random::TranslateCall;
+use crate::random::{NewRunCall, OldRunCall, TranslateCall};
 use crate::translator::bytes;
 
 pub fn pad(case: &mut Vec<u8>, area: &[u8]) {
@@ -41,6 +44,99 @@ pub fn translate_case(call: &TranslateCall) -> Vec<u8> {
         case.extend(&places[..16 * answer.first as usize]);
         case.extend(&records[..12 * answer.second as usize]);
     }
+    case
+}
+
+/// A begin of the old core, with the state of a run's call.
+pub fn old_begin_case(call: &OldRunCall, address: u32) -> Vec<u8> {
+    let mut state = call.state;
+    let mut case = bytes([0x4F4C_4442, address]);
+    case.extend(state);
+    old_begin_call(address, &mut state);
+    case.extend(state);
+    case
+}
+
+pub fn old_run_case(mut call: OldRunCall) -> Vec<u8> {
+    let mut case = bytes([
+        0x4F4C_4443,
+        call.image.len() as u32,
+        call.base,
+        call.data_base,
+        call.data.len() as u32,
+        call.count as u32,
+    ]);
+    case.extend(call.state);
+    pad(&mut case, &call.image);
+    pad(&mut case, &call.data);
+    let image = Image {
+        bytes: &call.image,
+        base: call.base,
+    };
+    old_run_call(
+        image,
+        call.data_base,
+        &mut call.state,
+        &mut call.data,
+        call.count,
+    );
+    case.extend(call.state);
+    pad(&mut case, &call.data);
+    case
+}
+
+/// A begin of the new core, with table and state of a run's call.
+pub fn new_begin_case(mut call: NewRunCall, address: u32) -> Vec<u8> {
+    let mut case = bytes([
+        0x4E45_5742,
+        call.places.len() as u32,
+        call.base,
+        call.image_length,
+        address,
+    ]);
+    case.extend(call.state);
+    pad(&mut case, &call.places);
+    let program = Program {
+        records: &[],
+        places: &call.places,
+        base: call.base,
+        image_length: call.image_length,
+    };
+    new_begin_call(program, address, &mut call.state);
+    case.extend(call.state);
+    case
+}
+
+pub fn new_run_case(mut call: NewRunCall) -> Vec<u8> {
+    let mut case = bytes([
+        0x4E45_5743,
+        call.places.len() as u32,
+        call.records.len() as u32,
+        call.base,
+        call.image_length,
+        call.data_base,
+        call.data.len() as u32,
+        call.count as u32,
+    ]);
+    case.extend(call.state);
+    pad(&mut case, &call.places);
+    pad(&mut case, &call.records);
+    pad(&mut case, &call.data);
+    let program = Program {
+        records: &call.records,
+        places: &call.places,
+        base: call.base,
+        image_length: call.image_length,
+    };
+    new_run_call(
+        program,
+        call.data_base,
+        &mut call.state,
+        &mut call.data,
+        call.count,
+    );
+    case.extend(call.state);
+    pad(&mut case, &call.data);
     case
 }
 

@@ -27,6 +27,7 @@ pub mod state;
 pub mod couples;
 pub mod random;
 
+pub mod calls;
 pub mod edges;
 pub mod files;
 pub mod cases;

@@ -4,8 +4,8 @@
 //! reading cases SEED COUNT     random cases with their results, as lines
 //! reading claim SEED COUNT     demand 3's claim on COUNT random accepted images
 //! reading census SEED COUNT    what the random cases meet
-//! reading file KIND SEED COUNT random cases as a file of numbers; KIND is translate, old_core or
-//!                              new_core
+//! reading file KIND SEED COUNT random cases as a file of numbers; KIND is translate, old_core (runs),
+//!                              new_core (runs) or calls (all five functions, mixed)
 //! reading file edges           calls of the translator at the edges of its answers, as such a file
 //! reading file listings        inputs of the listing program with what it prints, as such a file
 //! reading listing              01's listing of the image on standard input
@@ -66,12 +66,12 @@ use std::env;
 use std::io::{self, BufWriter, Read, Write};
 use std::process::ExitCode;
 
+use reading::calls;
 use reading::cases::{random_case, Asked, Malformed};
 use reading::claim::{check, Accepted, Start};
 use reading::couples::Transfer;
 use reading::edges::{edges_file, listings_file};
-use reading::files::{pad, translate_case};
-use reading::interface::{new_run_call, old_run_call};
+use reading::files::{new_run_case, old_run_case, translate_case};
 use reading::new_core;
 use reading::old_core::Image;
 use reading::places::made_by_the_rules;
@@ -91,7 +91,7 @@ fn main() -> ExitCode {
         ["cases", seed, count] => number(seed).zip(number(count)).map(|(s, c)| cases(s, c)),
         ["claim", seed, count] => number(seed).zip(number(count)).map(|(s, c)| claim(s, c)),
         ["census", seed, count] => number(seed).zip(number(count)).map(|(s, c)| census(s, c)),
-        ["file", kind, seed, count] if ["translate", "old_core", "new_core"].contains(&kind) => {
+        ["file", kind, seed, count] if ["translate", "old_core", "new_core", "calls"].contains(&kind) => {
             number(seed)
                 .zip(number(count))
                 .map(|(s, c)| file(kind, s, c))
@@ -116,7 +116,7 @@ fn main() -> ExitCode {
             eprintln!("usage: reading cases SEED COUNT");
             eprintln!("       reading claim SEED COUNT");
             eprintln!("       reading census SEED COUNT");
-            eprintln!("       reading file translate|old_core|new_core SEED COUNT");
+            eprintln!("       reading file translate|old_core|new_core|calls SEED COUNT");
             eprintln!("       reading file edges|listings");
             eprintln!("       reading listing < IMAGE");
             eprintln!("       reading translate BASE ENTRY... < IMAGE");
@@ -369,8 +369,9 @@ fn file(kind: &str, seed: u64, count: u64) -> io::Result<ExitCode> {
     for _ in 0..count {
         let case = match kind {
             "translate" => translate_case(&random_translate_call(&mut random)),
-            "old_core" => old_core_case(&mut random),
-            _ => new_core_case(&mut random),
+            "old_core" => old_run_case(random_old_run_call(&mut random)),
+            "new_core" => new_run_case(random_new_run_call(&mut random)),
+            _ => calls::random_case(&mut random),
         };
         out.write_all(&case)?;
     }
@@ -381,69 +382,6 @@ fn file(kind: &str, seed: u64, count: u64) -> io::Result<ExitCode> {
 fn whole_file(bytes: &[u8]) -> io::Result<ExitCode> {
     io::stdout().lock().write_all(bytes)?;
     Ok(ExitCode::SUCCESS)
-}
-
-fn old_core_case(random: &mut Random) -> Vec<u8> {
-    let mut call = random_old_run_call(random);
-    let mut case = bytes([
-        0x4F4C_4443,
-        call.image.len() as u32,
-        call.base,
-        call.data_base,
-        call.data.len() as u32,
-        call.count as u32,
-    ]);
-    case.extend(call.state);
-    pad(&mut case, &call.image);
-    pad(&mut case, &call.data);
-    let image = Image {
-        bytes: &call.image,
-        base: call.base,
-    };
-    old_run_call(
-        image,
-        call.data_base,
-        &mut call.state,
-        &mut call.data,
-        call.count,
-    );
-    case.extend(call.state);
-    pad(&mut case, &call.data);
-    case
-}
-
-fn new_core_case(random: &mut Random) -> Vec<u8> {
-    let mut call = random_new_run_call(random);
-    let mut case = bytes([
-        0x4E45_5743,
-        call.places.len() as u32,
-        call.records.len() as u32,
-        call.base,
-        call.image_length,
-        call.data_base,
-        call.data.len() as u32,
-        call.count as u32,
-    ]);
-    case.extend(call.state);
-    pad(&mut case, &call.places);
-    pad(&mut case, &call.records);
-    pad(&mut case, &call.data);
-    let program = new_core::Program {
-        records: &call.records,
-        places: &call.places,
-        base: call.base,
-        image_length: call.image_length,
-    };
-    new_run_call(
-        program,
-        call.data_base,
-        &mut call.state,
-        &mut call.data,
-        call.count,
-    );
-    case.extend(call.state);
-    pad(&mut case, &call.data);
-    case
 }
 
 fn listing() -> io::Result<ExitCode> {

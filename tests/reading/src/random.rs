@@ -466,6 +466,34 @@ pub fn random_program(random: &mut Random) -> Program {
     program
 }
 
+/// An image of 25 to 4,096 words, without jmpl and so without held places; some have too many places.
+pub fn random_large_program(random: &mut Random) -> Program {
+    let count = match random.weighted(&[60, 25, 10, 5]) {
+        0 => random.between(25, 200),
+        1 => random.between(200, 1_000),
+        2 => random.between(1_000, 4_095),
+        _ => 4_096,
+    };
+    let mut program = Program {
+        words: vec![0; count as usize],
+        base: random_base(random, count as u32),
+        data_base: 0,
+        data_length: 0,
+        entries: vec![],
+    };
+    let mut style = random.pick(&STYLES);
+    style[JMPL] = 0;
+    for position in 0..count {
+        program.words[position as usize] = random_word(random, &style, position, &program);
+    }
+    for _ in 0..random.between(1, 64) {
+        program
+            .entries
+            .push(program.address(random.between(0, count - 1)));
+    }
+    program
+}
+
 /// Replaces the word of each refusal 4 by one that a held place may have.
 pub(crate) fn allow_held_places(random: &mut Random, program: &mut Program) {
     while let Err(Refusal::ForbiddenWord(address)) = program.translate() {

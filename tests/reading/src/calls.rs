@@ -1,0 +1,172 @@
+//! Random calls of all five functions of the C interface, each with this reading's answer. Most are those of
+//! `random`; the others are there for lengths and bytes that no loader would lend.
+
+use crate::files::{new_begin_case, new_run_case, old_begin_case, old_run_case, translate_case};
+use crate::new_core::number;
+use crate::random::{
+    random_large_program, random_lengths, random_new_run_call, random_old_run_call,
+    random_translate_call, NewRunCall, OldRunCall, Random, TranslateCall,
+};
+
+/// A call of any function, as a case of a file.
+pub fn random_case(random: &mut Random) -> Vec<u8> {
+    match random.weighted(&[36, 4, 28, 6, 26]) {
+        0 => translate_case(&any_translate_call(random)),
+        1 => old_begin_case(&any_old_run_call(random), random.word()),
+        2 => old_run_case(any_old_run_call(random)),
+        3 => {
+            let call = any_new_run_call(random);
+            let address = address_to_begin_at(random, &call);
+            new_begin_case(call, address)
+        }
+        _ => new_run_case(any_new_run_call(random)),
+    }
+}
+
+fn random_bytes(random: &mut Random, limit: u32) -> Vec<u8> {
+    let length = random.below(limit);
+    (0..length).map(|_| random.word() as u8).collect()
+}
+
+fn fill(random: &mut Random, state: &mut [u8]) {
+    for byte in state {
+        *byte = random.word() as u8;
+    }
+}
+
+fn any_translate_call(random: &mut Random) -> TranslateCall {
+    match random.weighted(&[790, 10, 200]) {
+        0 => random_translate_call(random),
+        1 => large_translate_call(random),
+        _ => loose_translate_call(random),
+    }
+}
+
+/// An image of up to 4,096 words, with both buffers about as long as needed.
+fn large_translate_call(random: &mut Random) -> TranslateCall {
+    let program = random_large_program(random);
+    let (places_length, records_length) = random_lengths(random, &program);
+    TranslateCall {
+        image: program.image_bytes(),
+        base: program.base,
+        entries: program.entry_bytes(),
+        places_length,
+        records_length,
+    }
+}
+
+/// Buffers, lists and images of any length; entries around the image; any bytes as an image.
+fn loose_translate_call(random: &mut Random) -> TranslateCall {
+    let mut call = random_translate_call(random);
+    if random.chance(50) {
+        call.places_length = random.below(700) as usize;
+    }
+    if random.chance(50) {
+        call.records_length = random.below(900) as usize;
+    }
+    if random.chance(20) {
+        let length = call.image.len() as u32;
+        call.entries.clear();
+        for _ in 0..random.below(70) {
+            let entry = call.base.wrapping_add(4 * random.below(length / 4 + 1));
+            call.entries.extend(entry.to_be_bytes());
+        }
+        call.entries.truncate(random.below(281) as usize);
+    }
+    if random.chance(10) {
+        call.entries = random_bytes(random, 30);
+    }
+    if random.chance(20) {
+        call.image = random_bytes(random, 200);
+    }
+    if random.chance(5) {
+        call.base = random.word();
+    }
+    call
+}
+
+/// The data areas' lengths that matter: any small one, and those around 65,536.
+fn any_data(random: &mut Random, data: &mut Vec<u8>) {
+    if random.below(400) == 0 {
+        let length = random.between(65_528, 65_545) as usize;
+        data.resize(length, 0);
+    } else {
+        *data = random_bytes(random, 80);
+    }
+}
+
+/// Counts up to the largest; runs in a circle take all of it.
+fn any_count(random: &mut Random) -> u16 {
+    if random.below(100) == 0 {
+        random.pick(&[65_535, 65_534, 32_768])
+    } else {
+        random.below(300) as u16
+    }
+}
+
+fn any_old_run_call(random: &mut Random) -> OldRunCall {
+    let mut call = random_old_run_call(random);
+    if random.chance(10) {
+        fill(random, &mut call.state);
+    }
+    if random.chance(10) {
+        call.image = random_bytes(random, 100);
+    }
+    if random.chance(20) {
+        any_data(random, &mut call.data);
+        let at = call.data.len() as u32;
+        let near = call.data_base.wrapping_add(at).wrapping_sub(random.below(9));
+        call.state[4 * 12..4 * 13].copy_from_slice(&near.to_be_bytes());
+    }
+    if random.chance(10) {
+        call.count = any_count(random);
+    }
+    call
+}
+
+fn any_new_run_call(random: &mut Random) -> NewRunCall {
+    let mut call = random_new_run_call(random);
+    if random.chance(10) {
+        fill(random, &mut call.state);
+    }
+    if random.chance(5) {
+        call.places = random_bytes(random, 200);
+    }
+    if random.chance(5) {
+        call.records = random_bytes(random, 200);
+    }
+    if random.chance(5) {
+        call.records = small_numbers(random);
+    }
+    if random.chance(20) {
+        any_data(random, &mut call.data);
+        let at = call.data.len() as u32;
+        let near = call.data_base.wrapping_add(at).wrapping_sub(random.below(9));
+        call.state[4 * 12..4 * 13].copy_from_slice(&near.to_be_bytes());
+    }
+    if random.chance(10) {
+        call.count = any_count(random);
+    }
+    call
+}
+
+/// Records of kinds 0 to 8 whose numbers are small, so that some are good and go round.
+fn small_numbers(random: &mut Random) -> Vec<u8> {
+    let mut records = vec![];
+    for _ in 0..random.below(12) {
+        for number in [random.below(9), random.below(20), random.below(14)] {
+            records.extend(number.to_be_bytes());
+        }
+    }
+    records
+}
+
+/// Mostly the address of a place in the table, of whatever kind.
+fn address_to_begin_at(random: &mut Random, call: &NewRunCall) -> u32 {
+    let places = call.places.len() / 16;
+    match random.weighted(&[70, 25, 5]) {
+        0 if places > 0 => number(&call.places, 4 * random.below(places as u32) as usize),
+        0 | 1 => call.base.wrapping_add(random.below(120)),
+        _ => random.word(),
+    }
+}
