@@ -1,9 +1,22 @@
-/* Pijorrel: the C interface. Link with target/libpijorrel.a.
+/* Pijorrel: the C interface, for C99, C++ and later. Link with target/libpijorrel.a, which needs nothing but memset.
  *
- * Numbers inside byte areas have four bytes, big-endian. Lent areas must not overlap. No call keeps a pointer,
- * allocates, or fails to return. Every value of every argument is allowed; what each call answers and leaves in
- * the areas lent to it is proved for all of them. No call takes more than 1 KiB of stack but pijorrel_translate, which
- * takes less than 50 KiB, 48 of them for its index (measured on x86-64, in tests/stack).
+ * A loader translates an image once (pijorrel_translate), then begins a run on the new core (pijorrel_new_begin) and
+ * carries it on (pijorrel_new_run) until it ends. The old core runs the image itself (pijorrel_old_begin,
+ * pijorrel_old_run). examples/loader.c does all of this.
+ *
+ * Areas. Everything but single numbers goes through byte areas that the caller lends for the time of a call. A length
+ * counts bytes; any length will do, and an area of 0 bytes may be NULL. No alignment is asked. Numbers inside areas
+ * have four bytes, big-endian. Areas lent to one call must not overlap. Nothing outside them is read or written, and those
+ * that are const are only read.
+ *
+ * Calls. Every value of every argument is allowed: what each call answers and leaves in the areas is proved for all of
+ * them. Each call returns, allocates nothing, keeps no pointer and has no state of its own, so that calls with areas of
+ * their own may be made at the same time. No call takes more than 1 KiB of stack but pijorrel_translate, which takes
+ * less than 50 KiB, 48 of them for its index (measured on x86-64, in tests/stack).
+ *
+ * Addresses are numbers modulo 2^32. An address lies in the image if (address - base) modulo 2^32, plus 4, is at most
+ * the image's length; a data access of w bytes fits if (address - data_base) modulo 2^32, plus w, is at most the length
+ * of the data.
  */
 #ifndef PIJORREL_H
 #define PIJORREL_H
@@ -15,62 +28,85 @@
 extern "C" {
 #endif
 
-/* How a run stands, with the number that belongs to it:
+/* ---- how a run stands ----
+ *
+ * The end, and the number that belongs to it:
  *   0  still going; exactly the given count was done (0)
- *   1  Ticc taken ((rs1 + operand) modulo 128)
+ *   1  Ticc taken, the program's own way to end ((rs1 + operand) modulo 128)
  *   2  outside the image (the address)
  *   3  illegal word (the address)
- *   4  misaligned (the address)
+ *   4  misaligned: the PC, a jmpl's target or a data access (the address)
  *   5  data access that does not fit (the address)
- *   6  no place, new core only (the address)
- *   7  bad record, new core only (the record number) */
+ *   6  no place, new core only: an address in the image without a plain place (the address)
+ *   7  bad record, new core only (the record number): one past the last, of a kind other than 1 to 7, a word that its
+ *      kind cannot have, a condition above 15, a kind 7 that ends with other than 2 or 3
+ * The step that ends a run changes nothing but end and number; a run that has ended stays as it is. */
 struct pijorrel_end {
     uint32_t end;
     uint32_t number;
 };
 
-/* The old core's state: 38 numbers.
- *   0 to 31  registers (register 0 counts as 0)      34  nPC
+/* ---- the old core ----
+ *
+ * Its state: 38 numbers.
+ *   0 to 31  registers (register 0 counts as 0)       34  nPC
  *   32       flags, 8N + 4Z + 2V + C (low four bits)  35  annul (any number but 0 is set)
  *   33       PC                                       36  end, 37 the number beside it
- * An end outside 1 to 7 counts as still going. All bytes 0 are the start values. */
+ * Any bytes are a state; an end outside 1 to 7 counts as still going. All bytes 0 are the start values. Every call
+ * leaves it in normal form: register 0 as 0, flags below 16, annul 0 or 1, end 0 to 7, and number 0 beside end 0. */
 #define PIJORREL_OLD_STATE 152
 
 /* Sets PC to the address, nPC 4 further, annul clear, not ended; keeps registers and flags. */
 void pijorrel_old_begin(uint32_t address, uint8_t state[PIJORREL_OLD_STATE]);
 
-/* Passes count words, or fewer where the run ends. Of the data the first 65,536 bytes exist. */
+/* Passes count words, annulled ones counted, or fewer where the run ends; answers how it stands, as the state does.
+ *   image, image_length          big-endian words, in any number; a tail too short for a word is never in the image
+ *   base, data_base              the addresses of image and data
+ *   state                        carried on from where it is
+ *   data, data_length            read and written; of more than 65,536 bytes the first 65,536 are data
+ *   count                        0 to 65,535 */
 struct pijorrel_end pijorrel_old_run(const uint8_t *image, size_t image_length, uint32_t base,
                                      uint32_t data_base, uint8_t state[PIJORREL_OLD_STATE],
                                      uint8_t *data, size_t data_length, uint16_t count);
 
-/* The new core's state: 37 numbers.
- *   0 to 31  registers     33  record number     35  end, 36 the number beside it
- *   32       flags         34  held address
- * They are read as the old core's are. All bytes 0 are the start values. */
-#define PIJORREL_NEW_STATE 148
+/* ---- places and records ----
+ *
+ * A place table has four numbers for each place, 16 bytes. A place's number is its position, counted from 0.
+ *   0  address
+ *   1  next: the address after it; 0 for a held place, where it is known only when run
+ *   2  kind: 0 plain (next is address + 4), 1 slot (any other next), 2 held
+ *   3  the number of the first of its records
+ *
+ * A record has three numbers, 12 bytes: its kind and two more. Its number is its position, counted from 0.
+ *   1  do the word first: any known word but call, jmpl and Bicc, of which only bn without annul may stand here
+ *   2  register 15 := first
+ *   3  hold the address that the jmpl word first goes to; its rd := second, its source address
+ *   4  if condition first (0 to 15, as in Bicc) holds, go to record second
+ *   5  go to record first
+ *   6  go by the held address: to the first record of its lowest-numbered plain place; with none the run ends, with 2
+ *      outside the image, 6 inside
+ *   7  end as first says (2 or 3), at address second
+ * A number that a kind does not name is 0 in a translation and is not read. After 1, 2, 3 and a 4 whose condition fails
+ * comes the next record.
+ *
+ * The new core takes any bytes as table and records. A tail too short for a whole place or record is not counted. */
+#define PIJORREL_PLACE 16
+#define PIJORREL_RECORD 12
 
-/* A place table has four numbers for each place: address, next, kind (0 plain, 1 slot, 2 held), first record; records
- * have three numbers each. Any bytes will do; a tail too short for a whole place or record is not counted. */
+/* Buffers of these lengths are enough for every image that is accepted: 8,192 places, two records for each. */
+#define PIJORREL_PLACES_ENOUGH 131072
+#define PIJORREL_RECORDS_ENOUGH 196608
 
-/* Begins at the first record of the address's lowest-numbered plain place, with held address 0; keeps registers and
- * flags. With no such place the run ends at once: 2 outside the image, 6 inside, record number 0. */
-struct pijorrel_end pijorrel_new_begin(const uint8_t *places, size_t places_length, uint32_t base,
-                                       uint32_t image_length, uint32_t address, uint8_t state[PIJORREL_NEW_STATE]);
-
-/* Does count records, or fewer where the run ends. Of the data the first 65,536 bytes exist. */
-struct pijorrel_end pijorrel_new_run(const uint8_t *records, size_t records_length, const uint8_t *places,
-                                     size_t places_length, uint32_t base, uint32_t image_length, uint32_t data_base,
-                                     uint8_t state[PIJORREL_NEW_STATE], uint8_t *data, size_t data_length,
-                                     uint16_t count);
-
-/* What a translation answers: a number, and what is returned with it; second is 0 but for number 0.
- *   0  accepted (the place count, the record count)
+/* ---- the translator ----
+ *
+ * What it answers: a number, and what is returned with it; second is 0 but for number 0. The first that applies, in
+ * this order, but that 4 and 5 come in the order in which the walk over the places meets them:
+ *   0  accepted (first: the place count, second: the record count)
  *   1  image length 0, above 16,384 or no multiple of 4 (the length)
  *   2  base no multiple of 4 (the base)
  *   3  0 or over 64 entries (0), or an entry misaligned or outside the image (the position of one, counted from 1)
- *   4  a held place has a forbidden word (its address)
- *   5  no room for a place, or more than 8,192 (its address)
+ *   4  a held place, a jmpl's delay slot, has call, jmpl or any Bicc but bn without annul (its address)
+ *   5  no room for a place in the table, or more than 8,192 (its address)
  *   6  the record buffer is short (the records needed) */
 struct pijorrel_answer {
     uint32_t number;
@@ -78,12 +114,42 @@ struct pijorrel_answer {
     uint64_t second;
 };
 
-/* Translates an image from its entries, four bytes each, into a place table and records. On acceptance the bytes past
- * the last number used are 0, on a refusal all bytes of both buffers. A tail too short for a whole entry, place or
- * record is not counted. */
+/* Translates an image, from its entries, into a place table and records.
+ *   image, image_length, base    big-endian words and their address
+ *   entries, entries_length      four bytes for each address where runs begin; they become the first plain places
+ *   places, places_length        written whole: the places counted, zeros past them; on a refusal zeros
+ *   records, records_length      written whole: the records counted, zeros past them; on a refusal zeros
+ * A tail too short for a whole entry, place or record is not counted. The new core is to be given just what is counted:
+ * 16 * first bytes of places, 12 * second of records. */
 struct pijorrel_answer pijorrel_translate(const uint8_t *image, size_t image_length, uint32_t base,
                                           const uint8_t *entries, size_t entries_length, uint8_t *places,
                                           size_t places_length, uint8_t *records, size_t records_length);
+
+/* ---- the new core ----
+ *
+ * Its state: 37 numbers.
+ *   0 to 31  registers     33  record number     35  end, 36 the number beside it
+ *   32       flags         34  held address
+ * They are read and left as the old core's are. All bytes 0 are the start values. */
+#define PIJORREL_NEW_STATE 148
+
+/* Begins at the first record of the address's lowest-numbered plain place, with held address 0; keeps registers and
+ * flags. With no such place the run ends at once: 2 outside the image, 6 inside, record number 0. Answers how the run
+ * stands, as the state does.
+ *   places, places_length        the table
+ *   base, image_length           those of the image translated; the image itself is not needed */
+struct pijorrel_end pijorrel_new_begin(const uint8_t *places, size_t places_length, uint32_t base,
+                                       uint32_t image_length, uint32_t address, uint8_t state[PIJORREL_NEW_STATE]);
+
+/* Does count records, or fewer where the run ends; answers how it stands, as the state does.
+ *   records, records_length      the records
+ *   places, places_length        the table, for kind 6
+ *   base, image_length           those of the image translated, for kind 6
+ *   data_base, data, data_length, count    as in pijorrel_old_run */
+struct pijorrel_end pijorrel_new_run(const uint8_t *records, size_t records_length, const uint8_t *places,
+                                     size_t places_length, uint32_t base, uint32_t image_length, uint32_t data_base,
+                                     uint8_t state[PIJORREL_NEW_STATE], uint8_t *data, size_t data_length,
+                                     uint16_t count);
 
 #ifdef __cplusplus
 }

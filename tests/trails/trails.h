@@ -2,22 +2,9 @@
 #ifndef TRAILS_H
 #define TRAILS_H
 
-#include <stdbool.h>
+#include "../../examples/entries.h"
 
-#include "pijorrel.h"
-
-enum {
-    REGISTERS_AND_FLAGS = 132, /* the first bytes of both states */
-    DATA_ROOM = 64,
-    LONGEST_CUT = 40
-};
-
-/* An accepted image and its translation, just the places and records counted. */
-struct program {
-    const uint8_t *image, *places, *records;
-    size_t image_length, place_count, record_count;
-    uint32_t base;
-};
+enum { DATA_ROOM = 64, LONGEST_CUT = 40 };
 
 /* What both cores begin with; of the data only the first bytes, so many as the length says, are lent. */
 struct start {
@@ -33,16 +20,11 @@ struct entry {
 
 struct trail {
     struct entry entries[LONGEST_CUT];
-    int count, cut;
-    int steps;     /* since the last entry */
-    bool closed;   /* by its end, or where an entry past the cut would come */
+    int count;
     bool striding; /* from each entry to the next one or two steps, and no more than two to the close */
     bool landed;   /* the last entry is that of a landing without a place */
     uint32_t end, number;
 };
-
-/* Whether the table has a plain place of an address. */
-bool has_plain_place(const struct program *program, uint32_t address);
 
 /* The trails of both cores, cut at 1 to 40 entries. */
 void old_trail(const struct program *program, const struct start *start, int cut, struct trail *trail);

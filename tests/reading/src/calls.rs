@@ -95,6 +95,12 @@ fn any_data(random: &mut Random, data: &mut Vec<u8>) {
     }
 }
 
+/// An address for a data register, so that accesses meet the last bytes of the area and the first past it.
+fn near_its_end(random: &mut Random, base: u32, data: &[u8]) -> u32 {
+    let past = base.wrapping_add(data.len() as u32);
+    past.wrapping_sub(random.below(9))
+}
+
 /// Counts up to the largest; runs in a circle take all of it.
 fn any_count(random: &mut Random) -> u16 {
     if random.below(100) == 0 {
@@ -114,8 +120,7 @@ fn any_old_run_call(random: &mut Random) -> OldRunCall {
     }
     if random.chance(20) {
         any_data(random, &mut call.data);
-        let at = call.data.len() as u32;
-        let near = call.data_base.wrapping_add(at).wrapping_sub(random.below(9));
+        let near = near_its_end(random, call.data_base, &call.data);
         call.state[4 * 12..4 * 13].copy_from_slice(&near.to_be_bytes());
     }
     if random.chance(10) {
@@ -140,8 +145,7 @@ fn any_new_run_call(random: &mut Random) -> NewRunCall {
     }
     if random.chance(20) {
         any_data(random, &mut call.data);
-        let at = call.data.len() as u32;
-        let near = call.data_base.wrapping_add(at).wrapping_sub(random.below(9));
+        let near = near_its_end(random, call.data_base, &call.data);
         call.state[4 * 12..4 * 13].copy_from_slice(&near.to_be_bytes());
     }
     if random.chance(10) {

@@ -91,7 +91,9 @@ fn main() -> ExitCode {
         ["cases", seed, count] => number(seed).zip(number(count)).map(|(s, c)| cases(s, c)),
         ["claim", seed, count] => number(seed).zip(number(count)).map(|(s, c)| claim(s, c)),
         ["census", seed, count] => number(seed).zip(number(count)).map(|(s, c)| census(s, c)),
-        ["file", kind, seed, count] if ["translate", "old_core", "new_core", "calls"].contains(&kind) => {
+        ["file", kind, seed, count]
+            if ["translate", "old_core", "new_core", "calls"].contains(&kind) =>
+        {
             number(seed)
                 .zip(number(count))
                 .map(|(s, c)| file(kind, s, c))
