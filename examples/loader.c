@@ -187,7 +187,7 @@ static int run(const struct program *program, const struct order *order, size_t 
 static const char *difference(const struct walk *old, const struct walk *new)
 {
     if (old->closed != new->closed)
-        return "one core has ended and the other has not";
+        return "one core has an entry and the other has none";
     if (old->closed)
         return old->end == new->end && old->number == new->number ? NULL : "the ends";
     if (old->address != new->address)
@@ -199,12 +199,21 @@ static const char *difference(const struct walk *old, const struct walk *new)
     return NULL;
 }
 
+static void print_walk(const char *name, const struct walk *walk)
+{
+    if (!walk->closed)
+        printf("%s: at address %" PRIu32 "\n", name, walk->address);
+    else if (walk->astray)
+        printf("%s: neither entry nor end within %d steps\n", name, MOST_STEPS);
+    else
+        printf("%s: %s, %" PRIu32 "\n", name, words_of_end(walk->end), walk->number);
+}
+
 static int print_difference(const struct walk *old, const struct walk *new, uint64_t entries, const char *what)
 {
     printf("different after %" PRIu64 " equal entries: %s\n", entries, what);
-    printf("old core: %s %" PRIu32 ", new core: %s %" PRIu32 "\n", old->closed ? words_of_end(old->end) : "at address",
-           old->closed ? old->number : old->address, new->closed ? words_of_end(new->end) : "at address",
-           new->closed ? new->number : new->address);
+    print_walk("old core", old);
+    print_walk("new core", new);
     return DIFFERENT;
 }
 

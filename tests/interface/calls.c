@@ -65,12 +65,13 @@ static uint32_t take_number(void)
     return number_at(bytes);
 }
 
-/* Guards around bytes that are none of the answer, so that one left unwritten shows. */
+/* Guards around bytes that are none of the answer, so that one left unwritten shows; without guards, bytes that a
+ * checker of memory knows to be unwritten. */
 static struct area lend(size_t length)
 {
     struct area area = { room(length + 2 * guard), NULL, NULL, length };
-    area.bytes = guard > 0 ? area.block + guard : area.block;
-    if (length + guard > 0)
+    area.bytes = guard > 0 ? area.block + guard : area.block; /* nothing is added to a NULL */
+    if (guard > 0)
         memset(area.block, FILL, length + 2 * guard);
     return area;
 }
