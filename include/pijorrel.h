@@ -6,8 +6,8 @@
  *
  * Areas. Everything but single numbers goes through byte areas that the caller lends for the time of a call. A length
  * counts bytes; any length will do, and an area of 0 bytes may be NULL. No alignment is asked. Numbers inside areas
- * have four bytes, big-endian. Areas lent to one call must not overlap. Nothing outside them is read or written, and those
- * that are const are only read.
+ * have four bytes, big-endian. Areas lent to one call must not overlap. Nothing outside them is read or written, and
+ * those that are const are only read.
  *
  * Calls. Every value of every argument is allowed: what each call answers and leaves in the areas is proved for all of
  * them. Each call returns, allocates nothing, keeps no pointer and has no state of its own, so that calls with areas of
