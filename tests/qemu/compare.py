@@ -77,16 +77,23 @@ class Qemu:
 
     def run(self, program):
         """The trail in its log, and how the process ended: 0 for the exit trap."""
-        self.executable.write_bytes(elf_file(program))
+        entries, status, _ = self.run_file(elf_file(program))
+        return entries, status
+
+    def run_file(self, executable):
+        """The same of an executable's bytes, and what the process wrote."""
+        self.executable.write_bytes(executable)
         self.executable.chmod(0o755)
         self.log.unlink(missing_ok=True)
+        output = b""
         try:
-            status = subprocess.run(self.command, cwd=self.folder, env={}, preexec_fn=limit_files, timeout=20,
-                                    stdin=subprocess.DEVNULL, capture_output=True).returncode
+            done = subprocess.run(self.command, cwd=self.folder, env={}, preexec_fn=limit_files, timeout=20,
+                                  stdin=subprocess.DEVNULL, capture_output=True)
+            status, output = done.returncode, done.stdout
         except subprocess.TimeoutExpired:
             status = "no end in time"
         log = self.log.read_text() if self.log.exists() else ""
-        return [self.entry(block) for block in self.BLOCK.findall(log)], status
+        return [self.entry(block) for block in self.BLOCK.findall(log)], status, output
 
     @staticmethod
     def entry(block):
