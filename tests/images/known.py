@@ -1,0 +1,152 @@
+"""What each program has to leave in its results, worked out apart from it, in other ways where there are some."""
+import zlib
+from itertools import permutations
+
+MASK = 0xFFFFFFFF
+
+
+def drawn(state):
+    """Marsaglia's xorshift: the numbers that the programs draw."""
+    while True:
+        state ^= state << 13 & MASK
+        state ^= state >> 17
+        state ^= state << 5 & MASK
+        yield state
+
+
+def signed(number, bits=32):
+    number &= (1 << bits) - 1
+    return number - (number >> bits - 1 << bits)
+
+
+def take(numbers, count):
+    return [next(numbers) for _ in range(count)]
+
+
+def sort():
+    numbers = drawn(2463534242)
+    words = sorted(take(numbers, 24))
+    small = sorted(signed(number, 8) for number in take(numbers, 16))
+    halves = sorted(number & 0xFFFF for number in take(numbers, 20))
+    return words[::4] + small[::3][:5] + halves[::4]
+
+
+def search():
+    plates = [3, 17, 29, 130, 131, 132, 500, 777, 1024, 4095, 4096, 65535, 65536, 100000, 1000000, 2**31 - 1, 2**31,
+              3000000000, 2**32 - 6, 2**32 - 1]
+    wanted = [3, 2**32 - 1, 131, 133, 2**31, 0, 65536, 2**32 - 2]
+    levels = {100 - 16 * i: i - 6 for i in range(12)}
+    text = "level two, bay twenty-two"
+    return ([plates.index(plate) if plate in plates else -1 for plate in wanted]
+            + [levels.get(bay, 99) for bay in (100, -76, 36, 37)]
+            + [text.find("twenty"), text.find("two"), text.find("three"), "aaab".find("aab")])
+
+
+def functions():
+    def turned(a, b):
+        return (a << b % 32 | a >> (32 - b % 32)) & MASK
+
+    def joined(a, b):
+        return turned(a, 3) + b
+    operations = [lambda a, b: a + b, lambda a, b: abs(a - b), turned, lambda a, b: a & ~b ^ b >> 3, lambda a, b: a * b]
+    numbers = [5, 1000003, 77, 2**32 - 1, 12, 305419896]
+
+    def folded(by, count, value):
+        for number in numbers[:count]:
+            value = by(value, number) & MASK
+        return value
+    value = 1
+    for i, which in enumerate([0, 4, 1, 3, 2, 0, 1, 4, 2, 3, 0, 4]):
+        value = operations[which](value, numbers[i // 2]) & MASK
+    chosen = [min if number & 1 else joined for number in take(drawn(99), 4)]
+    return ([by(numbers[i], numbers[i + 1]) for i, by in enumerate(operations)] + [value]
+            + [folded(operations[0], 6, 0), folded(operations[1], 6, 9), folded(operations[3], 6, 4042322160)]
+            + [folded(by, i + 3, 2000) for i, by in enumerate(chosen)])
+
+
+def choose():
+    """Of the program on the stack only what it comes to: three for each count, and a mixture of the counts."""
+    kept_after = []
+    for i in range(6):
+        kept = i
+        for left in range(2 * i, 0, -1):
+            kept = ~(33 * kept + left) & MASK
+        kept_after.append(kept)
+    kept, total = 7, 0
+    for letter in "abcdefgh zz hgfedcba A bad cafe":
+        if letter == "d":
+            total += kept % 16
+        kept = {"b": kept + 11, "c": kept ^ 0x55, "e": 2 * kept, "f": kept // 4, "h": 1}.get(letter, kept)
+        total += {"a": 3, "b": -7, "c": 19, "e": 2, "f": 1, "g": -100, "h": 40}.get(letter, 0)
+    return [6 * i for i in range(6)] + kept_after + [total, kept]
+
+
+def recursion():
+    def tower(discs, start, end):
+        if discs == 0:
+            return []
+        rest = 6 - start - end
+        return tower(discs - 1, start, rest) + [(start, end)] + tower(discs - 1, rest, end)
+    mixture = 0
+    for start, end in tower(5, 1, 3):
+        mixture = (mixture << 3 & MASK | mixture >> 29) ^ (4 * start | end)
+    moved = sum(all(a != b for a, b in zip(order, "abcde")) for order in permutations("abcde"))
+    numbers = sorted(signed(number) for number in take(drawn(314159265), 20))
+    return [2**5 - 1, mixture, 55, 9, moved] + numbers[::2]
+
+
+def text():
+    def mixture(letters):
+        value = 5381
+        for letter in letters:
+            value = 33 * value + letter & MASK
+        return value
+    room = b"bay 2046, level -3, \xE9t\xE9 -2147483648"
+    capitals = bytes(letter - 32 if 97 <= letter <= 122 else letter for letter in room)
+    return [len(room), mixture(room), mixture(capitals), mixture(capitals[::-1]), ord("9") - ord("1"), -ord(" "), 0,
+            0xE9 - ord("e"), -2**31, 1234567, 0, int.from_bytes(capitals[::-1][:4], "big")]
+
+
+def checksum():
+    data = bytes(number & 255 for number in take(drawn(88172645), 64))
+    low = sum(data) % 255
+    high = sum((64 - i) * byte for i, byte in enumerate(data)) % 255
+    value = 0xCBF29CE484222325
+    for byte in data[:32]:
+        value = ((value * 2**7 | value // 2**57) % 2**64 + byte) % 2**64
+        value -= value // 8
+    total = sum((1, 2**64 - 1, 0x1FFFFFFFF, 2**63, 2**32 - 1)) % 2**64
+    return [zlib.crc32(data[:24]), zlib.crc32(data), zlib.adler32(data), high << 8 | low, value >> 32, value & MASK,
+            total >> 32, total & MASK]
+
+
+def bays():
+    taken, shut, signs = [set() for _ in range(4)], [False] * 4, ["F"] * 4
+    refused = unknown = shown = 0
+    for number in take(drawn(20461115), 120):
+        level, kind, bay = number & 3, number >> 3 & 7, (number >> 8 & 15) % 12
+        if kind == 7:
+            shut[level] = number >> 12 & 1 == 0
+        elif kind >= 5:
+            unknown -= bay not in taken[level]
+            taken[level].discard(bay)
+        elif shut[level] or bay in taken[level]:
+            refused += 1
+        else:
+            taken[level].add(bay)
+        free = 12 - len(taken[level])
+        sign = "-" if shut[level] else "X" if free == 0 else "W" if free < 5 else "F"
+        if sign != signs[level]:
+            signs[level] = sign
+            shown = (shown << 7 & MASK | shown >> 25) + ord(sign) & MASK
+    return ([sum(1 << bay for bay in level) for level in taken] + [12 - len(level) for level in taken]
+            + [ord(sign) for sign in signs] + [refused, unknown, shown])
+
+
+PROGRAMS = {maker.__name__: maker for maker in (sort, search, functions, choose, recursion, text, checksum, bays)}
+
+
+def known(name):
+    """The results as 16 words; those that a program does not set are 0."""
+    results = [number & MASK for number in PROGRAMS[name]()]
+    return results + [0] * (16 - len(results))
