@@ -1,0 +1,261 @@
+#include "runs.h"
+
+#include <string.h>
+
+#include "../../bench/numbers.h"
+#include "pijorrel.h"
+
+enum { PLACES = 8192, RECORDS = 2 * PLACES, MOST_STEPS = 1 << 20, NO_GROUP = -1, TRAP_TAKEN = 1 };
+enum { PC = 33, ANNUL = 35, RECORD_NUMBER = 33 };
+
+/* A run of one core; the state has room for either. */
+struct run {
+    uint8_t state[PIJORREL_OLD_STATE], data[LONGEST_AREA];
+    struct pijorrel_end end;
+    unsigned long steps; /* calls */
+};
+
+static uint8_t places[16 * PLACES], records[12 * RECORDS];
+static size_t place_count, record_count;
+static int32_t group_of[RECORDS]; /* the place whose first record this is */
+static struct run old, new, far_old, far_new;
+
+/* ---- translation and begin */
+
+static bool translated(const struct stored *image)
+{
+    struct pijorrel_answer answer = pijorrel_translate(image->image, image->image_length, image->base, image->entries,
+                                                       image->entries_length, places, sizeof places, records,
+                                                       sizeof records);
+    if (answer.number != 0)
+        return false;
+    place_count = answer.first;
+    record_count = answer.second;
+    for (size_t k = 0; k < RECORDS; k++)
+        group_of[k] = NO_GROUP;
+    for (size_t k = place_count; k-- > 0;) /* the lowest place wins */
+        if (word_at(places + 16 * k + 12) < RECORDS)
+            group_of[word_at(places + 16 * k + 12)] = (int32_t)k;
+    return true;
+}
+
+/* The area begins with the image, since tables may stand in it. */
+static void begin(const struct stored *image, struct run *run)
+{
+    memset(run, 0, sizeof *run);
+    memcpy(run->data, image->image, image->image_length);
+    memcpy(run->data + image->image_length, image->given, image->given_length);
+}
+
+static void begin_old(const struct stored *image, struct run *run)
+{
+    begin(image, run);
+    pijorrel_old_begin(word_at(image->entries), run->state);
+}
+
+static void begin_new(const struct stored *image, struct run *run)
+{
+    begin(image, run);
+    run->end = pijorrel_new_begin(places, 16 * place_count, image->base, (uint32_t)image->image_length,
+                                  word_at(image->entries), run->state);
+}
+
+static void run_old(const struct stored *image, struct run *run, uint16_t count)
+{
+    run->steps++;
+    run->end = pijorrel_old_run(image->image, image->image_length, image->base, image->base, run->state, run->data,
+                                image->area_length, count);
+}
+
+static void run_new(const struct stored *image, struct run *run, uint16_t count)
+{
+    run->steps++;
+    run->end = pijorrel_new_run(records, 12 * record_count, places, 16 * place_count, image->base,
+                                (uint32_t)image->image_length, image->base, run->state, run->data, image->area_length,
+                                count);
+}
+
+/* ---- from entry to entry */
+
+static uint32_t number_in(const struct run *run, int position)
+{
+    return word_at(run->state + 4 * position);
+}
+
+static int32_t place_at(const struct run *run)
+{
+    uint32_t record = number_in(run, RECORD_NUMBER);
+    return record < record_count ? group_of[record] : NO_GROUP;
+}
+
+static void to_next_old(const struct stored *image)
+{
+    do
+        run_old(image, &old, 1);
+    while (old.end.end == 0 && number_in(&old, ANNUL) != 0 && old.steps < MOST_STEPS);
+}
+
+static void to_next_new(const struct stored *image)
+{
+    do
+        run_new(image, &new, 1);
+    while (new.end.end == 0 && place_at(&new) == NO_GROUP && new.steps < MOST_STEPS);
+}
+
+static bool same_machine(const struct stored *image)
+{
+    return memcmp(old.state, new.state, REGISTERS_AND_FLAGS) == 0
+        && memcmp(old.data, new.data, image->area_length) == 0;
+}
+
+/* Whether both cores stand at one and the same entry; after too many steps they do not. */
+static bool same_entry(const struct stored *image)
+{
+    int32_t place = place_at(&new);
+    return place != NO_GROUP && word_at(places + 16 * (size_t)place) == number_in(&old, PC)
+        && number_in(&old, ANNUL) == 0 && same_machine(image);
+}
+
+/* ---- QEMU's trail */
+
+struct path {
+    size_t run;      /* of the path, counted from 0 */
+    uint32_t within; /* words of it that are passed */
+    uint64_t entries, digest;
+};
+
+/* Whether an entry is the path's next one. */
+static bool on_path(const struct stored *image, struct path *path, uint32_t address)
+{
+    const uint8_t *run = image->path + 4 * path->run;
+    if (path->run == image->run_count || address != image->base + 4 * (half_at(run) + path->within))
+        return false;
+    path->within++;
+    if (path->within == half_at(run + 2)) {
+        path->run++;
+        path->within = 0;
+    }
+    return true;
+}
+
+/* FNV-1a over whole numbers. */
+static void mix(struct path *path, uint32_t number)
+{
+    path->digest = (path->digest ^ number) * 0x100000001B3u;
+}
+
+static void mix_entry(struct path *path, uint32_t address, const uint8_t *machine)
+{
+    path->entries++;
+    mix(path, address);
+    for (int k = 0; k < REGISTERS_AND_FLAGS; k += 4)
+        mix(path, word_at(machine + k));
+}
+
+/* ---- whole runs */
+
+/* Both cores from entry to entry, until one ends. */
+static const char *differ_on_the_way(const struct stored *image, struct path *path)
+{
+    while (old.end.end == 0 && new.end.end == 0) {
+        if (!same_entry(image))
+            return "the cores' entries differ";
+        if (!on_path(image, path, number_in(&old, PC)))
+            return "another path than QEMU's";
+        mix_entry(path, number_in(&old, PC), old.state);
+        to_next_old(image);
+        to_next_new(image);
+    }
+    return NULL;
+}
+
+static const char *differ_at_end(const struct stored *image)
+{
+    if (old.end.end != TRAP_TAKEN || new.end.end != TRAP_TAKEN)
+        return "no end 1";
+    if (old.end.number != new.end.number)
+        return "the trap's numbers differ";
+    return same_machine(image) ? NULL : "the cores differ at the end";
+}
+
+static const char *differ_from_record(const struct stored *image, const struct path *path)
+{
+    size_t length = image->image_length;
+    if (path->entries != image->entry_count || path->run != image->run_count)
+        return "another number of entries than QEMU's";
+    if (path->digest != image->digest)
+        return "registers or flags on the way are not QEMU's";
+    if (memcmp(old.state, image->last, REGISTERS_AND_FLAGS) != 0)
+        return "registers or flags at the end are not QEMU's";
+    if (memcmp(old.data, image->image, length) != 0
+        || memcmp(old.data + length, image->after, image->area_length - length) != 0)
+        return "the data at the end is not QEMU's";
+    if (memcmp(old.data + image->results_at, image->results, 4 * image->result_count) != 0)
+        return "the results are not the known ones";
+    return NULL;
+}
+
+/* The same runs in fewer calls: every byte is left as the many calls left it. */
+static const char *differ_in_strides(const struct stored *image, uint16_t count)
+{
+    begin_old(image, &far_old);
+    begin_new(image, &far_new);
+    while (far_old.end.end == 0 && far_old.steps < MOST_STEPS)
+        run_old(image, &far_old, count);
+    while (far_new.end.end == 0 && far_new.steps < MOST_STEPS)
+        run_new(image, &far_new, count);
+    if (memcmp(far_old.state, old.state, PIJORREL_OLD_STATE) != 0
+        || memcmp(far_new.state, new.state, PIJORREL_NEW_STATE) != 0)
+        return "larger counts leave another state";
+    if (memcmp(far_old.data, old.data, LONGEST_AREA) != 0 || memcmp(far_new.data, new.data, LONGEST_AREA) != 0)
+        return "larger counts leave other data";
+    return NULL;
+}
+
+/* ---- a record spoiled */
+
+/* The place that is run in the middle of the path. */
+static size_t place_in_middle(const struct stored *image)
+{
+    uint32_t address = image->base + 4 * half_at(image->path + 4 * (image->run_count / 2));
+    for (size_t k = 0; k < place_count; k++)
+        if (word_at(places + 16 * k) == address)
+            return k;
+    return 0;
+}
+
+/* One bit of that place's first record: of the word, the link, the condition or the record gone to. */
+static void spoil_record(const struct stored *image)
+{
+    uint8_t *record = records + 12 * (size_t)word_at(places + 16 * place_in_middle(image) + 12);
+    put_word(record + 4, word_at(record + 4) ^ 1);
+}
+
+/* ---- all of it */
+
+static void add_counts(const struct path *path, struct counts *counts)
+{
+    counts->places += place_count;
+    counts->records += record_count;
+    counts->entries += path->entries;
+    counts->old_steps += old.steps;
+    counts->new_steps += new.steps;
+}
+
+const char *check_image(const struct stored *image, bool spoil, struct counts *counts)
+{
+    struct path path = { 0, 0, 0, 0xCBF29CE484222325u };
+    const char *what;
+    if (!translated(image))
+        return "refused by the translator";
+    if (spoil)
+        spoil_record(image);
+    begin_old(image, &old);
+    begin_new(image, &new);
+    what = differ_on_the_way(image, &path);
+    add_counts(&path, counts);
+    what = what ? what : differ_at_end(image);
+    what = what ? what : differ_from_record(image, &path);
+    what = what ? what : differ_in_strides(image, 97);
+    return what ? what : differ_in_strides(image, UINT16_MAX);
+}
