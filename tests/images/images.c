@@ -7,10 +7,11 @@
 #include <string.h>
 
 #include "../../bench/numbers.h"
+#include "../stored.h"
 #include "runs.h"
 #include "stored.h"
 
-enum { LARGEST_FILE = 1 << 20, LEAST_PROGRAMS = 6 };
+enum { LEAST_PROGRAMS = 6 };
 
 /* What --spoil changes: a record that the run comes to, or one of QEMU's numbers. */
 enum spoiled { NOTHING, RECORD, PATH, DIGEST, REGISTER, DATA, RESULT, SPOILS };
@@ -63,17 +64,6 @@ static bool check_file(uint8_t *bytes, size_t length, enum spoiled spoiled)
         check(&image, spoiled);
     }
     return count > 0 && at == end;
-}
-
-static size_t read_file(const char *path, uint8_t *bytes)
-{
-    FILE *file = fopen(path, "rb");
-    size_t length;
-    if (!file)
-        return 0;
-    length = fread(bytes, 1, LARGEST_FILE, file);
-    fclose(file);
-    return length;
 }
 
 /* The programs that are there at all levels. */

@@ -3,21 +3,11 @@
 #include <string.h>
 
 #include "../../bench/numbers.h"
+#include "../stored.h"
 
 enum { MARK = 0x494D4147, NUMBERS = 13, NAME = 16 };
 
 const char level_names[LEVELS][3] = { "O0", "O1", "O2", "O3", "Os" };
-
-/* The bytes of an area, padded; NULL past the end. */
-static const uint8_t *take(const uint8_t **at, const uint8_t *end, size_t length)
-{
-    const uint8_t *from = *at;
-    size_t padded = (length + 3) / 4 * 4;
-    if (!from || padded > (size_t)(end - from))
-        return *at = NULL;
-    *at += padded;
-    return from;
-}
 
 static void take_numbers(const uint8_t *head, struct stored *image)
 {

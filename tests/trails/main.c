@@ -8,9 +8,10 @@
 #include <string.h>
 
 #include "../../bench/numbers.h"
+#include "../stored.h"
 #include "trails.h"
 
-enum { TAG = 0x54524E53, STARTS = 8, LARGEST_FILE = 1 << 20, PLACES_ROOM = 1 << 13, RECORDS_ROOM = 3 << 12 };
+enum { TAG = 0x54524E53, STARTS = 8, PLACES_ROOM = 1 << 13, RECORDS_ROOM = 3 << 12 };
 
 static const int cuts[] = { 1, 2, 3, 8, LONGEST_CUT };
 
@@ -179,17 +180,6 @@ static bool run_image(const struct given *given, uint32_t spoiled)
     return true;
 }
 
-/* The bytes of an area, padded; NULL past the end. */
-static const uint8_t *take(const uint8_t **at, const uint8_t *end, size_t length)
-{
-    const uint8_t *from = *at;
-    size_t padded = (length + 3) / 4 * 4;
-    if (!from || padded > (size_t)(end - from))
-        return *at = NULL;
-    *at += padded;
-    return from;
-}
-
 static bool take_case(const uint8_t **at, const uint8_t *end, struct given *given)
 {
     uint32_t *n = given->numbers;
@@ -218,17 +208,6 @@ static bool run_file(const uint8_t *bytes, size_t length, uint32_t spoiled)
             return false;
     }
     return cases > 0 && at == end;
-}
-
-static size_t read_file(const char *path, uint8_t *bytes)
-{
-    FILE *file = fopen(path, "rb");
-    size_t length;
-    if (!file)
-        return 0;
-    length = fread(bytes, 1, LARGEST_FILE, file);
-    fclose(file);
-    return length;
 }
 
 static void print_seen(void)
