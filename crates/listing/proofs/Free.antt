@@ -57,7 +57,7 @@ pub listing-short : (bytes : List ℕ) {a : Answer} {p r : List ℕ} → length 
     → answerText a p r ≡ listingOf bytes
 unfolding listingOf
 listing-short bytes h t =
-    rw (le-ltb 1024 (length bytes) h) (ap listed (t .all ∙ any-position bytes 8192 12288 (t .position) 0))
+    rw (le-ltb 1024 (length bytes) h) (ap listed (t .back .all ∙ any-position bytes 8192 12288 (t .back .position) 0))
 
 pub listed-as : {bytes out out1 text : List ℕ} {m r : ℕ} → text ≡ listingOf bytes → Written out 0 text m out1 r → Listed bytes out out1 r
 unfolding inserted

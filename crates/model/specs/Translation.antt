@@ -103,9 +103,16 @@ back numbers places records = record { numbers = numbers; places = places; recor
 abbrev pub returned : Handed → Back
 returned h = back (answerNumbers (h .answer)) (h .places) (h .records)
 
--- "an equation where these rules settle it, else the free part by name and all that holds of it. One number is free: where the count is
--- good, the position in refusal 3 may be that of any bad entry, and is always that of one."
-pub record HandsBack (image : List ℕ) (base : ℕ) (entries : List ℕ) (placesLength recordsLength : ℕ) (numbers places records : List ℕ) : Type 0 where
+-- "One number is free: where the count is good, the position in refusal 3 may be that of any bad entry, and is always that of one.":
+-- what holds of an answer holds for some such position
+pub record Freely (image : List ℕ) (base : ℕ) (entries : List ℕ) (holds : ℕ → Type 0) : Type 0 where
   pub position : ℕ
   pub bad : anyBad base (length image) (numbersIn entries) ≡ true → BadAt base (length image) (numbersIn entries) position
-  pub all : back numbers places records ≡ returned (translation image base entries placesLength recordsLength position)
+  pub all : holds position
+
+-- "What a contract says, for every input, of the answer and of each buffer: an equation where these rules settle it, else the free part by
+-- name and all that holds of it."
+abbrev pub HandsBack : List ℕ → ℕ → List ℕ → ℕ → ℕ → List ℕ → List ℕ → List ℕ → Type 0
+HandsBack image base entries placesLength recordsLength numbers places records =
+    Freely image base entries
+    (λ position. back numbers places records ≡ returned (translation image base entries placesLength recordsLength position))

@@ -40,9 +40,12 @@ returns : tie.Need-returns
 returns c = let s = c .before .before .before .before .before .before .before .before .before .before .before .before .before .before .before .before .before .before .before .before .before in
     rw (c .before .before .before .before .before .before .before .clear-from .ensures, c .before .before .clear-from2 .ensures)
     (record {
-      position = badFrom (s .args .base) (length (s .args .image .now)) 0 (numbersIn (s .args .entries .now));
-      bad = bad-at _ _ _;
-      all = handed-back _ _ _ _ _ _ (c .before .before .before .before .before .before .before .before .before .before .before .before .before .before .attempt .ensures) (c .before .before .before .before .before .before .before .before .places-counted .ensures) (c .before .before .before .records-counted .ensures) (λ i. (c .before .before .before .before .before .before .before .before .before .before .before .before .slice-known3 .given i) .fits) (λ i. (c .before .before .before .before .before .before .before .before .before .before .slice-known4 .given i) .fits);
+      back =
+          record {
+            position = badFrom (s .args .base) (length (s .args .image .now)) 0 (numbersIn (s .args .entries .now));
+            bad = bad-at _ _ _;
+            all = handed-back _ _ _ _ _ _ (c .before .before .before .before .before .before .before .before .before .before .before .before .before .before .attempt .ensures) (c .before .before .before .before .before .before .before .before .places-counted .ensures) (c .before .before .before .records-counted .ensures) (λ i. (c .before .before .before .before .before .before .before .before .before .before .before .before .slice-known3 .given i) .fits) (λ i. (c .before .before .before .before .before .before .before .before .before .before .slice-known4 .given i) .fits);
+          };
       place-room = omega (arith, c .before .before .before .before .before .before .before .before .before .before .before .before .before .before .attempt .ensures .place-room);
       record-room = omega (arith, c .before .before .before .before .before .before .before .before .before .before .before .before .before .before .attempt .ensures .record-room);
     })
