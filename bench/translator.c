@@ -8,7 +8,7 @@
 #include "fields.h"
 #include "numbers.h"
 
-enum { IMAGE_LIMIT = 16384, ENTRY_LIMIT = 64, PLACE_LIMIT = 8192, HEADS = 16384 };
+enum { IMAGE_LIMIT = 16384, ENTRY_LIMIT = 64, PLACE_LIMIT = 8192, HEADS = 8192 };
 
 enum refusal {
     ACCEPTED = 0,
@@ -106,15 +106,15 @@ static inline uint32_t pair_kind(uint32_t p, uint32_t n)
     return n == p + 4 ? PLACE_PLAIN : PLACE_SLOT;
 }
 
-static inline uint32_t hash(uint32_t p, uint32_t n, uint32_t kind)
+static inline uint32_t hash(uint32_t p, uint32_t n)
 {
-    return (p / 4 % 65536 + (kind == PLACE_HELD ? 4099 : n / 4 % 65536 * 37)) % HEADS;
+    return (p / 4 % 65536 + n / 4 % 65536 * 37) % HEADS;
 }
 
 /* A place's number, or the count of places where it is not present. */
 static inline uint32_t find(const struct table *table, uint32_t p, uint32_t n, uint32_t kind)
 {
-    for (uint32_t j = table->heads[hash(p, n, kind)]; j != 0; j = table->links[j - 1]) {
+    for (uint32_t j = table->heads[hash(p, n)]; j != 0; j = table->links[j - 1]) {
         const uint8_t *row = table->rows + (size_t)(j - 1) * PLACE_BYTES;
         if (word_at(row) == p && word_at(row + 4) == n && word_at(row + 8) == kind)
             return j - 1;
@@ -125,7 +125,7 @@ static inline uint32_t find(const struct table *table, uint32_t p, uint32_t n, u
 /* Gives a place the next number, unless it is present; false where there is no room for it. */
 static bool add(struct table *table, uint32_t p, uint32_t n, uint32_t kind)
 {
-    uint32_t h = hash(p, n, kind);
+    uint32_t h = hash(p, n);
     uint8_t *row;
     if (find(table, p, n, kind) < table->count)
         return true;

@@ -12,7 +12,7 @@
  * Calls. Every value of every argument is allowed: what each call answers and leaves in the areas is proved for all of
  * them. Each call returns, allocates nothing, keeps no pointer and has no state of its own, so that calls with areas of
  * their own may be made at the same time. No call takes more than 1 KiB of stack but pijorrel_translate, which takes
- * less than 50 KiB, 48 of them for its index (measured on x86-64, in tests/stack).
+ * less than 34 KiB, 32 of them for its index (measured on x86-64, in tests/stack).
  *
  * Addresses are numbers modulo 2^32. An address lies in the image if (address - base) modulo 2^32, plus 4, is at most
  * the image's length; a data access of w bytes fits if (address - data_base) modulo 2^32, plus w, is at most the length

@@ -70,7 +70,7 @@ static void make_image(void)
 int main(void)
 {
     static const struct { const char *name; void *(*work)(void *); size_t bound; } calls[] = {
-        { "translate", translate, 50 * 1024 }, { "old core", run_old, 1024 }, { "new core", run_new, 1024 }
+        { "translate", translate, 34 * 1024 }, { "old core", run_old, 1024 }, { "new core", run_new, 1024 }
     };
     struct pijorrel_answer answer = { 9, 0, 0 };
     int failed = 0;

@@ -134,7 +134,7 @@ module _ (image : List ℕ) (base : ℕ) where
     module _ (f i : ℕ) (ps qs : List Place) (q : Q i ps)
         (ih : (rs : List Place) → Q (suc i) rs → walk image base f cap (suc i) rs ≡ table qs → Reached qs) where
       keep-grown : (x : Place) → getElem? ps i ≡ some x → allowed image base x ≡ true → (y : Walked) → grow cap ps (followers image base x) ≡ y
-          → grown image base (walk image base f cap (suc i)) y ≡ table qs → Reached qs
+          → grown (walk image base f cap (suc i)) y ≡ table qs → Reached qs
       unfolding grown
       keep-grown x g a (table rs) u v = ih rs (keep i ps rs x g a u q) v
       keep-grown x g a (refused c b) u v = not-refused c b qs v
@@ -161,7 +161,7 @@ module _ (image : List ℕ) (base : ℕ) where
     unfolding placesOf grown
     places-keep es qs begin e = go (grow cap [] (plains es)) refl e
       where
-        go : (y : Walked) → grow cap [] (plains es) ≡ y → grown image base (walk image base (suc cap) cap 0) y ≡ table qs → Reached qs
+        go : (y : Walked) → grow cap [] (plains es) ≡ y → grown (walk image base (suc cap) cap 0) y ≡ table qs → Reached qs
         go (table ps) u v = walk-keeps (suc cap) 0 ps qs (begin ps u) v
         go (refused c a) u v = not-refused c a qs v
         go endless u v = not-endless qs v
@@ -244,7 +244,7 @@ module _ (image : List ℕ) (base : ℕ) where
       go false false k known added = let z : _≡_ {A = ℕ} 0 1 = cc in absurd (omega arith)
 
   ends-grown : (cap : ℕ) (ps fs : List Place) (y : Walked) (rest : List Place → Walked) → length ps ≤ cap → grow cap ps fs ≡ y
-      → ((rs : List Place) → length rs ≤ cap → rest rs ≡ endless → ⊥) → grown image base rest y ≡ endless → ⊥
+      → ((rs : List Place) → length rs ≤ cap → rest rs ≡ endless → ⊥) → grown rest y ≡ endless → ⊥
   unfolding grown
   ends-grown cap ps fs (table rs) rest l u ih v = ih rs (grew Aligned cap ps fs rs u .room l) v
   ends-grown cap ps fs (refused c a) rest l u ih v = let z : _≡_ {A = ℕ} 0 1 = cc in omega arith

@@ -23,12 +23,13 @@ grow cap ps (x ∷ xs) =
     let added = grow cap (ps ++ (x ∷ [])) xs in
     pick (member ps x) known (pick (ltb (length ps) cap) added (refused 5 (placeAt x)))
 
-module _ (image : List ℕ) (base : ℕ) where
-  unfoldable pub grown : (List Place → Walked) → Walked → Walked
-  grown rest (table ps) = rest ps
-  grown rest (refused n a) = refused n a
-  grown rest endless = endless
+-- goes on with the places, if the walk has not ended
+unfoldable pub grown : (List Place → Walked) → Walked → Walked
+grown rest (table ps) = rest ps
+grown rest (refused n a) = refused n a
+grown rest endless = endless
 
+module _ (image : List ℕ) (base : ℕ) where
   -- "4 is tested when a place is handled, before its followers"
   unfoldable pub tested : (List Place → Walked) → ℕ → List Place → Place → Bool → Walked
   tested rest cap ps x false = refused 4 (placeAt x)

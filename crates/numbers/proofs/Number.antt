@@ -20,15 +20,17 @@ use Rattle.numbers.proofs.Bounds.{below-get}
 lowest : (a q : ℕ) → a < 256 → (a + q * 256) % 256 ≡ a
 lowest a q p = omega arith
 
--- a little-endian sum of four bytes, with its bytes in reverse order
-pub reversed : (a b c d : ℕ) → a < 256 → b < 256 → c < 256 → d < 256 → (x : ℕ) → x ≡ a + b * 256 + c * 65536 + d * 16777216
-    → x % 256 * 16777216 + x / 256 % 256 * 65536 + x / 65536 % 256 * 256 + x / 16777216 ≡ a * 2 ^ 24 + b * 2 ^ 16 + c * 2 ^ 8 + d
-reversed a b c d p q r s x i =
-    let e : x % 256 ≡ a = omega arith in
-    let f : x / 256 ≡ b + (c + d * 256) * 256 = omega arith in
-    let g : x / 65536 ≡ c + d * 256 = omega arith in
-    let h : x / 16777216 ≡ d = omega arith in
-    rw (e, f, g, h, lowest b (c + d * 256) q, lowest c d r)
+-- a little-endian sum of four bytes, and its bytes
+module _ (a b c d : ℕ) (p : a < 256) (q : b < 256) (r : c < 256) (s : d < 256) (x : ℕ) (i : x ≡ a + b * 256 + c * 65536 + d * 16777216) where
+  pub its-bytes : (x % 256 ≡ a) × (x / 256 % 256 ≡ b) × (x / 65536 % 256 ≡ c) × (x / 16777216 ≡ d)
+  its-bytes =
+      let f : x / 256 ≡ b + (c + d * 256) * 256 = omega arith in
+      let g : x / 65536 ≡ c + d * 256 = omega arith in
+      (omega arith, rw f (lowest b (c + d * 256) q), rw g (lowest c d r), omega arith)
+
+  -- in reverse order
+  pub reversed : x % 256 * 16777216 + x / 256 % 256 * 65536 + x / 65536 % 256 * 256 + x / 16777216 ≡ a * 2 ^ 24 + b * 2 ^ 16 + c * 2 ^ 8 + d
+  reversed = rw (its-bytes .0, its-bytes .1, its-bytes .2, its-bytes .3)
 
 -- one more byte is cleared
 pub clear-more : (n i : ℕ) (l : List ℕ) → n ≤ i → i < length l

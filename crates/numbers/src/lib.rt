@@ -45,15 +45,16 @@ pub fn read_number(bytes: &[u8], at: usize) -> u32
     swapped(a + b * 256 + c * 65536 + d * 16777216)
 }
 
-// Puts a number's four bytes at a position.
+// Puts a number's four bytes at a position. Swapped, with the lowest byte first, they are one store.
 pub fn write_number(bytes: &mut [u8], at: usize, v: u32)
     requires { ⌜ at + 4 ≤ length (now bytes) ⌝ }
     ensures { λ _. ⌜ now (bytes .exit) ≡ putNumber (now (bytes .entry)) at v ⌝ }
 {
-    bytes[at] = (v / 16777216 % 256) as u8;
-    bytes[at + 1] = (v / 65536 % 256) as u8;
-    bytes[at + 2] = (v / 256 % 256) as u8;
-    bytes[at + 3] = (v % 256) as u8;
+    let w = swapped(v);
+    bytes[at] = (w % 256) as u8;
+    bytes[at + 1] = (w / 256 % 256) as u8;
+    bytes[at + 2] = (w / 65536 % 256) as u8;
+    bytes[at + 3] = (w / 16777216) as u8;
 }
 
 // Fills a list with the first numbers of an area.

@@ -1,11 +1,9 @@
 -- Laws of the index: what a chain passes over is not the place that is looked for.
 use Rattle.numbers.specs.Number.{upTo}
 use Rattle.numbers.specs.Choice.{pick}
-use Rattle.model.specs.declared.Place.the-variants.{Pair, Held}
+use Rattle.model.proofs.Members.{same-eq}
 use Rattle.model.specs.declared.Place.{Place}
-use Rattle.model.specs.Records.{link}
-use Rattle.model.specs.Places.{samePlace, member}
-use Rattle.model.specs.OldCore.{old}
+use Rattle.model.specs.Places.{placeAt, nextOf, samePlace, member}
 use borrow.Author.Tests.{ltb-false, eqb-true, eqb-false}
 use lib.Seq.{getD-set-same, getD-set-other}
 use lib.ListN.{length, getD, set, replicate, length-set, length-replicate, getD-replicate}
@@ -13,43 +11,29 @@ use lib.Dec.{eqb, ltb, leb·suc-suc, leb·zero}
 use native.Mathlib.Nat.{le-of-suc-le-suc, eq-or-lt-of-le}
 use native.Mathlib.Numerals.{add-one}
 use native.Mathlib.Omega.{arith}
-use mathlib.Core.Logic.{⊎-elim}
+use mathlib.Core.Logic.{_⊎_, inl, inr, ⊎-elim}
 use mathlib.Core.List.{List, [], _∷_, _++_}
-use mathlib.Core.Bool.{Bool, true, false, _&&_}
-use mathlib.Core.Path.{_≡_, refl, sym, _∙_}
-use Prim.Native.Nat.{ℕ, zero, suc, _+_, _*_, _-_, _≤_, _<_}
-use Rattle.places.specs.Table.{placeIn, placesIn, putRow, numberOf, Fits}
-use Rattle.places.specs.Index.{hash, last, Indexed}
-use Rattle.places.proofs.Rows.{place-put, place-below, length-places}
-
-both : (a b : Bool) → a && b ≡ true → (a ≡ true) × (b ≡ true)
-both true b e = (refl, e)
-both false b e = let z : _≡_ {A = ℕ} 0 1 = cc in absurd (omega arith)
-
-never : {A : Type 0} → false ≡ true → A
-never e = let z : _≡_ {A = ℕ} 0 1 = cc in absurd (omega arith)
-
--- the same place has the same hash
-same-hash : (x y : Place) → samePlace x y ≡ true → hash x ≡ hash y
-unfolding samePlace hash
-same-hash (Pair p n) (Pair q o) e =
-    let t = both (eqb p q) (eqb n o) e in
-    rw (eqb-true p q (t .0), eqb-true n o (t .1))
-same-hash (Pair p n) (Held q) e = never e
-same-hash (Held p) (Pair q o) e = never e
-same-hash (Held p) (Held q) e = rw (eqb-true p q e)
+use mathlib.Core.Bool.{Bool, true, false, false≢true}
+use mathlib.Core.Path.{_≡_, refl, sym, ap, _∙_}
+use Prim.Native.Nat.{ℕ, zero, suc, _+_, _*_, _-_, _^_, _≤_, _<_}
+use Rattle.places.specs.Table.{placeOf, Shows, placeIn, ShowsIn, SameRow, placesIn, putPlace, numberOf}
+use Rattle.places.specs.Index.{hashOf, hash, last, Indexed}
+use Rattle.places.proofs.Rows.{at-place, differ, place-same, shows-same, place-put, shows-put, place-below, row-below, length-places}
 
 other-hash : (x y : Place) → (hash x ≡ hash y → ⊥) → samePlace x y ≡ false
-other-hash x y n = go (samePlace x y) refl
-  where
-    go : (b : Bool) → samePlace x y ≡ b → samePlace x y ≡ false
-    go true e = absurd (n (same-hash x y e))
-    go false e = e
+other-hash x y n = differ x y (λ e. n (ap hash e))
 
-pub hash-lt : (x : Place) → hash x < 16384
+pub hash-lt : (p n : ℕ) → hashOf p n < 8192
+unfolding hashOf
+hash-lt p n = omega arith
+
+place-lt : (x : Place) → hash x < 8192
 unfolding hash
-hash-lt (Pair p n) = omega arith
-hash-lt (Held p) = omega arith
+place-lt x = hash-lt (placeAt x) (nextOf x)
+
+pub hash-of : (p n k : ℕ) → Shows p n k → hashOf p n ≡ hash (placeOf p n k)
+unfolding hash
+hash-of p n k s = rw (at-place p n k, s .its-next)
 
 -- a place is in a list exactly if its number is below the list's length
 pub member-number : (x : Place) (ps : List Place) → member ps x ≡ ltb (numberOf x ps) (length ps)
@@ -163,83 +147,139 @@ low-last x t (suc n) best = go (low-last x t n best) (eqb (hash (placeIn t n)) (
     go r false e =
         low-step x t n best ∙ rw (other-hash (placeIn t n) x (eqb-false (hash (placeIn t n)) (hash x) e)) r
 
--- following a chain: the number that is sought is the lowest before j, or best; and place j - 1 has the hash
-abbrev pub Seeking : Place → List ℕ → ℕ → ℕ → ℕ → Type 0
-Seeking x t count best j =
-    (j ≤ count) × (numberOf x (placesIn t count) ≡ low x t j best) × (0 < j → hash (placeIn t (j - 1)) ≡ hash x)
+-- of places that are not x, none is x
+pub not-there : (t : List ℕ) (n : ℕ) (x : Place) → ((k : ℕ) → k < n → samePlace (placeIn t k) x ≡ false) → member (placesIn t n) x ≡ false
+unfolding placesIn upTo member
+not-there t zero x h = refl
+not-there t (suc n) x h =
+    member-snoc x (placeIn t n) (placesIn t n) ∙ rw (not-there t n x (λ k l. h k (omega arith)), h n (omega arith))
+
+pub none-there : (t : List ℕ) (n : ℕ) (x : Place) → member (placesIn t n) x ≡ false → (k : ℕ) → k < n → samePlace (placeIn t k) x ≡ false
+unfolding placesIn upTo
+none-there t zero x e k l = absurd (omega arith)
+none-there t (suc n) x e k l =
+    go (member (placesIn t n) x) (samePlace (placeIn t n) x) refl refl (sym (member-snoc x (placeIn t n) (placesIn t n)) ∙ e) (none-there t n x)
+  where
+    go : (c d : Bool) → member (placesIn t n) x ≡ c → samePlace (placeIn t n) x ≡ d → pick c true d ≡ false
+        → (member (placesIn t n) x ≡ false → (k : ℕ) → k < n → samePlace (placeIn t k) x ≡ false) → samePlace (placeIn t k) x ≡ false
+    go true d u v w r = absurd (false≢true (sym w))
+    go false true u v w r = absurd (false≢true (sym w))
+    go false false u v w r =
+        ⊎-elim (λ (m : k ≡ n). rw m v) (λ (m : k < n). r u k m) (eq-or-lt-of-le (le-of-suc-le-suc l))
+
+-- following a chain: the place that is sought is none from j on; and place j - 1 has the hash
+abbrev pub Seeking : Place → List ℕ → ℕ → ℕ → Type 0
+Seeking x t count j =
+    (j ≤ count) × (numberOf x (placesIn t count) ≡ low x t j count) × (0 < j → hash (placeIn t (j - 1)) ≡ hash x)
 
 module _ (x : Place) (t : List ℕ) (count : ℕ) where
-  seeking-from : (n v best : ℕ) → n ≤ count → numberOf x (placesIn t count) ≡ low x t n best → v ≡ last t n (hash x)
-      → Seeking x t count best v
-  seeking-from n v best h e ev = rw ev (omega (arith, last-le t n (hash x)), e ∙ low-last x t n best, last-hash t n (hash x))
+  seeking-from : (n v : ℕ) → n ≤ count → numberOf x (placesIn t count) ≡ low x t n count → v ≡ last t n (hash x) → Seeking x t count v
+  seeking-from n v h e ev = rw ev (omega (arith, last-le t n (hash x)), e ∙ low-last x t n count, last-hash t n (hash x))
+
+  -- one place back
+  back : (j : ℕ) → Seeking x t count j → 0 < j
+      → numberOf x (placesIn t count) ≡ low x t (j - 1) (pick (samePlace (placeIn t (j - 1)) x) (j - 1) count)
+  back j c l = let k : suc (j - 1) ≡ j = omega arith in c .1 ∙ (rw k at (low-step x t (j - 1) count))
 
   module _ (heads links : List ℕ) (i : Indexed t count heads links) where
-    pub seeking-start : (h : ℕ) → h ≡ hash x → Seeking x t count count (getD heads h 0)
-    seeking-start h e =
-        seeking-from count (getD heads h 0) count (omega arith) (low-all x t count) (rw e (i .head (hash x) (hash-lt x)))
+    pub seeking-start : (h : ℕ) → h ≡ hash x → Seeking x t count (getD heads h 0)
+    seeking-start h e = seeking-from count (getD heads h 0) (omega arith) (low-all x t count) (rw e (i .head (hash x) (place-lt x)))
 
-    pub seeking-next : (best j b : ℕ) {hit : Bool} → Seeking x t count best j → 0 < j → hit ≡ samePlace (placeIn t (j - 1)) x
-        → b ≡ pick hit (j - 1) best → Seeking x t count b (getD links (j - 1) 0)
-    seeking-next best j b {hit} c l eh eb =
-        let k : suc (j - 1) ≡ j = omega arith in
-        let m = rw k at (low-step x t (j - 1) best) in
-        seeking-from (j - 1) (getD links (j - 1) 0) b (omega arith) (c .1 ∙ m ∙ rw (eb, eh)) (i .link (j - 1) (omega arith) ∙ rw (c .2 l) refl)
+    pub seeking-next : (j : ℕ) → Seeking x t count j → 0 < j → samePlace (placeIn t (j - 1)) x ≡ false
+        → Seeking x t count (getD links (j - 1) 0)
+    seeking-next j c l e =
+        seeking-from (j - 1) (getD links (j - 1) 0) (omega arith) (rw e at (back j c l)) (i .link (j - 1) (omega arith) ∙ rw (c .2 l) refl)
 
-    pub seeking-less : (best j : ℕ) → Seeking x t count best j → 0 < j → getD links (j - 1) 0 < j
-    seeking-less best j c l = rw (i .link (j - 1) (omega arith)) (omega (arith, last-le t (j - 1) (hash (placeIn t (j - 1)))))
+    pub seeking-less : (j : ℕ) → Seeking x t count j → 0 < j → getD links (j - 1) 0 < j
+    seeking-less j c l = rw (i .link (j - 1) (omega arith)) (omega (arith, last-le t (j - 1) (hash (placeIn t (j - 1)))))
 
-  pub seeking-end : (best j : ℕ) → Seeking x t count best j → j ≤ 0 → best ≡ numberOf x (placesIn t count)
-  seeking-end best j c l = let e : j ≡ 0 = omega arith in sym (c .1 ∙ rw e (low-none x t best))
+    pub seeking-hit : (j : ℕ) → Seeking x t count j → 0 < j → samePlace (placeIn t (j - 1)) x ≡ true → j - 1 ≡ numberOf x (placesIn t count)
+    unfolding low
+    seeking-hit j c l e =
+        let q : placeIn t (j - 1) ≡ x = same-eq (placeIn t (j - 1)) x e in
+        let m : member (placesIn t (j - 1)) x ≡ false =
+        not-there t (j - 1) x (λ k b. rw q at (i .apart k (j - 1) b (omega arith))) in
+        sym ((rw e at (back j c l)) ∙ rw m)
+
+  pub seeking-end : (j : ℕ) → Seeking x t count j → j ≤ 0 → count ≡ numberOf x (placesIn t count)
+  seeking-end j c l = let e : j ≡ 0 = omega arith in sym (c .1 ∙ rw e (low-none x t count))
 
 -- an empty index
-pub index-none : (t : List ℕ) → Indexed t 0 (replicate 16384 0) (replicate 8192 0)
+pub index-none : (t : List ℕ) → Indexed t 0 (replicate 8192 0) (replicate 8192 0)
 unfolding last
 index-none t =
     record {
-      head-room = length-replicate {A = ℕ} 16384 0;
+      head-room = length-replicate {A = ℕ} 8192 0;
       link-room = length-replicate {A = ℕ} 8192 0;
-      head = λ h l. getD-replicate 16384 h 0 0 l;
+      head = λ h l. getD-replicate 8192 h 0 0 l;
       link = λ i l. absurd (omega arith);
+      shows = λ i l. absurd (omega arith);
+      apart = λ i j l m. absurd (omega arith);
     }
 
 -- the index of a table whose places are the same
-pub index-same : (t m heads links : List ℕ) (n : ℕ) → ((i : ℕ) → i < n → placeIn t i ≡ placeIn m i) → Indexed t n heads links
-    → Indexed m n heads links
-index-same t m heads links n e x =
+pub index-same : (t m heads links : List ℕ) (n : ℕ) → ((i : ℕ) → i < n → SameRow m t i) → Indexed t n heads links → Indexed m n heads links
+index-same t m heads links n s x =
     record {
       head-room = x .head-room;
       link-room = x .link-room;
       head = λ h l. x .head h l ∙ last-same t m n h e;
       link = λ i l. x .link i l ∙ rw (e i l) (last-same t m i (hash (placeIn m i)) (λ k j. e k (omega arith)));
+      shows = λ i l. shows-same m t i (s i l) (x .shows i l);
+      apart = λ i j l k. rw (← e i (omega arith), ← e j k) (x .apart i j l k);
     }
+  where
+    e : (i : ℕ) → i < n → placeIn t i ≡ placeIn m i
+    e i l = sym (place-same m t i (s i l))
 
--- the index with one place more
-module _ (t : List ℕ) (n : ℕ) (x : Place) (f : ℕ) (heads links : List ℕ) (old : Indexed t n heads links) (room : n < 8192)
-    (h : 16 * n + 16 ≤ length t) (b : Fits x) where
-  kept : (i k : ℕ) → i ≤ n → last (putRow t n x f) i k ≡ last t i k
-  kept i k le = last-same (putRow t n x f) t i k (λ j m. place-below t n x f j (omega arith))
+-- the index with one place more, which was not there
+module _ (t : List ℕ) (n p q k : ℕ) (heads links : List ℕ) (old : Indexed t n heads links) (room : n < 8192) (h : 16 * n + 16 ≤ length t)
+    (bp : p < 2 ^ 32) (bq : q < 2 ^ 32) (bk : k < 2 ^ 32) (s : Shows p q k) (new : member (placesIn t n) (placeOf p q k) ≡ false) where
+  abbrev x : Place
+  x = placeOf p q k
 
-  heads-at : (k : ℕ) → k < 16384 → (c : Bool) → eqb (hash x) k ≡ c → getD (set heads (hash x) (n + 1)) k 0 ≡ pick c (suc n) (last t n k)
-  heads-at k l true e =
-      rw (← eqb-true (hash x) k e) (getD-set-same heads (hash x) (n + 1) 0 (omega (arith, hash-lt x, old .head-room)) ∙ add-one n)
-  heads-at k l false e = getD-set-other heads (hash x) k (n + 1) 0 (λ q. eqb-false (hash x) k e (sym q)) ∙ old .head k l
+  abbrev t+ : List ℕ
+  t+ = putPlace t n p q k
 
-  pub index-put : Indexed (putRow t n x f) (n + 1) (set heads (hash x) (n + 1)) (set links n (getD heads (hash x) 0))
+  there : placeIn t+ n ≡ x
+  there = place-put t n p q k h bp bq bk
+
+  kept : (i m : ℕ) → i ≤ n → last t+ i m ≡ last t i m
+  kept i m le = last-same t+ t i m (λ j b. place-below t n p q k j (omega arith))
+
+  heads-at : (m : ℕ) → m < 8192 → (c : Bool) → eqb (hash x) m ≡ c → getD (set heads (hash x) (n + 1)) m 0 ≡ pick c (suc n) (last t n m)
+  heads-at m l true e =
+      rw (← eqb-true (hash x) m e) (getD-set-same heads (hash x) (n + 1) 0 (omega (arith, place-lt x, old .head-room)) ∙ add-one n)
+  heads-at m l false e = getD-set-other heads (hash x) m (n + 1) 0 (λ q. eqb-false (hash x) m e (sym q)) ∙ old .head m l
+
+  links-at : (i : ℕ) → (i ≡ n) ⊎ (i < n) → getD (set links n (getD heads (hash x) 0)) i 0 ≡ last t+ i (hash (placeIn t+ i))
+  links-at i (inl e) =
+      rw (e, there) (getD-set-same links n (getD heads (hash x) 0) 0 (omega (arith, old .link-room)) ∙ old .head (hash x) (place-lt x)
+      ∙ sym (kept n (hash x) (omega arith)))
+  links-at i (inr m) =
+      getD-set-other links n i (getD heads (hash x) 0) 0 (omega arith) ∙ old .link i m
+      ∙ rw (place-below t n p q k i m) (sym (kept i (hash (placeIn t i)) (omega arith)))
+
+  shows-at : (i : ℕ) → (i ≡ n) ⊎ (i < n) → ShowsIn t+ i
+  shows-at i (inl e) = rw e (shows-put t n p q k h bp bq bk s)
+  shows-at i (inr m) = shows-same t+ t i (row-below t n p q k i m) (old .shows i m)
+
+  apart-at : (i j : ℕ) → i < j → (j ≡ n) ⊎ (j < n) → samePlace (placeIn t+ i) (placeIn t+ j) ≡ false
+  apart-at i j l (inl e) = rw (e, there, place-below t n p q k i (omega arith)) (none-there t n x new i (omega arith))
+  apart-at i j l (inr m) = rw (place-below t n p q k i (omega arith), place-below t n p q k j m) (old .apart i j l m)
+
+  at-most : (i : ℕ) → i < n + 1 → (i ≡ n) ⊎ (i < n)
+  at-most i l = eq-or-lt-of-le (le-of-suc-le-suc (rw add-one at l))
+
+  pub index-put : Indexed t+ (n + 1) (set heads (hashOf p q) (n + 1)) (set links n (getD heads (hashOf p q) 0))
   unfolding last
   index-put =
+      rw (hash-of p q k s)
       record {
         head-room = length-set heads (hash x) (n + 1) ∙ old .head-room;
         link-room = length-set links n (getD heads (hash x) 0) ∙ old .link-room;
-        head = λ k l.
-            heads-at k l (eqb (hash x) k) refl
-            ∙ sym (rw (add-one n, place-put t n x f h b, kept n k (omega arith)));
-        link = λ i l.
-            ⊎-elim
-            (λ (e : i ≡ n).
-            rw e (getD-set-same links n (getD heads (hash x) 0) 0 (omega (arith, old .link-room))
-            ∙ old .head (hash x) (hash-lt x) ∙ rw (place-put t n x f h b) (sym (kept n (hash x) (omega arith)))))
-            (λ (m : i < n).
-            getD-set-other links n i (getD heads (hash x) 0) 0 (omega arith) ∙ old .link i m
-            ∙ rw (place-below t n x f i m) (sym (kept i (hash (placeIn t i)) (omega arith))))
-            (eq-or-lt-of-le (le-of-suc-le-suc (rw add-one at l)));
+        head = λ m l. heads-at m l (eqb (hash x) m) refl ∙ sym (rw (add-one n, there, kept n m (omega arith)));
+        link = λ i l. links-at i (at-most i l);
+        shows = λ i l. shows-at i (at-most i l);
+        apart = λ i j l m. apart-at i j l (at-most j m);
       }

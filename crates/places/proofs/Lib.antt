@@ -1,4 +1,4 @@
-pub mod Naming
+pub mod Flows
 pub mod Rows
 pub mod Chains
-pub mod Worklist
+pub mod Walking

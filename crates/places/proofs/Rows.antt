@@ -1,30 +1,24 @@
--- Laws of the place table: a row that was put, and the places of a table with a row more.
+-- Laws of the place table: the numbers of a place, a row that was put, and the places of a table with a row more.
 use Rattle.numbers.proofs.Lists.{length-up, get-up}
 use Rattle.numbers.proofs.Number.{length-put}
 use Rattle.numbers.proofs.Choice.{either}
-use Rattle.numbers.proofs.Areas.{number-put, numbers-same, number-before, number-after}
-use Rattle.numbers.specs.Number.{plus, numberAt, putNumber, upTo, numbersOf}
+use Rattle.numbers.proofs.Areas.{number-put, number-before}
+use Rattle.numbers.specs.Number.{plus, numberAt, putNumber, upTo}
 use Rattle.numbers.specs.Choice.{pick}
+use Rattle.model.proofs.Members.{same-self, same-eq}
 use Rattle.model.specs.declared.Place.the-variants.{Pair, Held}
 use Rattle.model.specs.declared.Place.{Place}
-use Rattle.model.specs.Cases.{address}
-use Rattle.model.specs.Places.{kindOf, nextOf, placeAt}
-use borrow.Author.Tests.{leb-true, leb-false}
+use Rattle.model.specs.Places.{plain, kindOf, nextOf, placeAt, samePlace}
+use borrow.Author.Tests.{eq-eqb, eqb-true, eqb-false}
 use lib.ListN.{length, getD}
-use lib.Dec.{eqb, leb}
-use native.Mathlib.Nat.{eq-or-lt-of-le}
+use lib.Dec.{eqb}
 use native.Mathlib.Numerals.{add-one}
 use native.Mathlib.Omega.{arith}
-use mathlib.Core.Logic.{⊎-elim}
-use mathlib.Core.List.{List, [], _∷_, _++_, append-assoc}
+use mathlib.Core.List.{List, [], _∷_, _++_}
 use mathlib.Core.Bool.{Bool, true, false}
-use mathlib.Core.Path.{_≡_, refl, _∙_}
+use mathlib.Core.Path.{_≡_, refl, sym, ap, _∙_}
 use Prim.Native.Nat.{ℕ, zero, suc, _+_, _*_, _^_, _≤_, _<_}
-use Rattle.places.specs.Table.{placeIn, placesIn, putRow, Fits}
-
-pub length-putRow : (l : List ℕ) (i : ℕ) (x : Place) (f : ℕ) → length (putRow l i x f) ≡ length l
-unfolding putRow
-length-putRow l i x f = simp length-put
+use Rattle.places.specs.Table.{placeOf, Shows, placeIn, ShowsIn, SameRow, placesIn, putPlace}
 
 pub length-places : (l : List ℕ) (n : ℕ) → length (placesIn l n) ≡ n
 unfolding placesIn
@@ -40,105 +34,115 @@ pub place-of : (l : List ℕ) (n i : ℕ) (d : Place) → i < n → getD (places
 unfolding placesIn
 place-of l n i d h = get-up (placeIn l) n i d h
 
--- a place is what its kind, its address and its next say
-by-kind : (x : Place) → pick (eqb (kindOf x) 2) (Held (placeAt x)) (Pair (placeAt x) (nextOf x)) ≡ x
-unfolding kindOf placeAt nextOf
-by-kind (Pair p n) =
-    either (λ (k : ℕ). pick (eqb k 2) (Held p) (Pair p n) ≡ Pair p n) (eqb n (plus p 4)) 0 1 refl refl
-by-kind (Held p) = refl
+-- rows with the same place, and the same numbers for it
+pub place-same : (l m : List ℕ) (i : ℕ) → SameRow l m i → placeIn l i ≡ placeIn m i
+unfolding placeIn
+place-same l m i s = rw (s .0, s .1, s .2)
 
-kind-fits : (x : Place) → kindOf x < 2 ^ 32
-unfolding kindOf
-kind-fits (Pair p n) = either (λ (k : ℕ). k < 2 ^ 32) (eqb n (plus p 4)) 0 1 (omega arith) (omega arith)
-kind-fits (Held p) = omega arith
+pub shows-same : (l m : List ℕ) (i : ℕ) → SameRow l m i → ShowsIn m i → ShowsIn l i
+shows-same l m i s h = rw (s .0, s .1, s .2) h
 
-module _ (l : List ℕ) (i : ℕ) (x : Place) (f : ℕ) where
+-- the address of a place, and the numbers of plain, slot and held ones
+pub at-place : (p n k : ℕ) → placeAt (placeOf p n k) ≡ p
+unfolding placeOf placeAt
+at-place p n k = either (λ (x : Place). placeAt x ≡ p) (eqb k 2) (Held p) (Pair p n) refl refl
+
+pub place-plain : (p : ℕ) → placeOf p (plus p 4) 0 ≡ plain p
+unfolding placeOf
+place-plain p = refl
+
+pub shows-plain : (p : ℕ) → Shows p (plus p 4) 0
+unfolding placeOf nextOf kindOf
+shows-plain p = record { its-next = refl; its-kind = rw (eq-eqb (plus p 4) (plus p 4) refl) }
+
+pub place-held : (p : ℕ) → placeOf p 0 2 ≡ Held p
+unfolding placeOf
+place-held p = refl
+
+pub shows-held : (p : ℕ) → Shows p 0 2
+unfolding placeOf nextOf kindOf
+shows-held p = record { its-next = refl; its-kind = refl }
+
+pub place-pair : (p n : ℕ) {k : ℕ} → k ≡ kindOf (Pair p n) → placeOf p n k ≡ Pair p n
+unfolding placeOf kindOf
+place-pair p n e = rw e (either (λ (k : ℕ). pick (eqb k 2) (Held p) (Pair p n) ≡ Pair p n) (eqb n (plus p 4)) 0 1 refl refl)
+
+pub shows-pair : (p n : ℕ) {k : ℕ} → k ≡ kindOf (Pair p n) → Shows p n k
+unfolding nextOf
+shows-pair p n e = record { its-next = rw (place-pair p n e); its-kind = rw (place-pair p n e) (sym e) }
+
+-- places by their numbers: the same exactly if all three are
+pub differ : (x y : Place) → (x ≡ y → ⊥) → samePlace x y ≡ false
+differ x y n = go (samePlace x y) refl
+  where
+    go : (b : Bool) → samePlace x y ≡ b → samePlace x y ≡ false
+    go true e = absurd (n (same-eq x y e))
+    go false e = e
+
+module _ (a b c p n k : ℕ) where
+  pub other-address : (a ≡ p → ⊥) → samePlace (placeOf a b c) (placeOf p n k) ≡ false
+  other-address h = differ (placeOf a b c) (placeOf p n k) (λ e. h (sym (at-place a b c) ∙ ap placeAt e ∙ at-place p n k))
+
+  module _ (s : Shows a b c) (t : Shows p n k) where
+    pub other-next : (b ≡ n → ⊥) → samePlace (placeOf a b c) (placeOf p n k) ≡ false
+    other-next h = differ (placeOf a b c) (placeOf p n k) (λ e. h (sym (s .its-next) ∙ ap nextOf e ∙ t .its-next))
+
+    pub by-kind : a ≡ p → b ≡ n → eqb c k ≡ samePlace (placeOf a b c) (placeOf p n k)
+    by-kind d e = go (eqb c k) refl
+      where
+        go : (v : Bool) → eqb c k ≡ v → v ≡ samePlace (placeOf a b c) (placeOf p n k)
+        go true f = rw (d, e, eqb-true c k f) (sym (same-self (placeOf p n k)))
+        go false f =
+            sym (differ (placeOf a b c) (placeOf p n k) (λ g. eqb-false c k f (sym (s .its-kind) ∙ ap kindOf g ∙ t .its-kind)))
+
+-- a row that was put
+module _ (l : List ℕ) (i p n k : ℕ) where
   abbrev t1 : List ℕ
-  t1 = putNumber l (16 * i) (placeAt x)
+  t1 = putNumber l (16 * i) p
 
   abbrev t2 : List ℕ
-  t2 = putNumber t1 (16 * i + 4) (nextOf x)
+  t2 = putNumber t1 (16 * i + 4) n
 
-  abbrev t3 : List ℕ
-  t3 = putNumber t2 (16 * i + 8) (kindOf x)
+  -- what stands before the row stays
+  number-below : (m : ℕ) → m + 4 ≤ 16 * i → numberAt (putPlace l i p n k) m ≡ numberAt l m
+  unfolding putPlace
+  number-below m h =
+      number-before t2 (16 * i + 8) k m (omega arith) ∙ number-before t1 (16 * i + 4) n m (omega arith)
+      ∙ number-before l (16 * i) p m (omega arith)
 
-  -- what stands before the row and after it stays
-  number-below : (k : ℕ) → k + 4 ≤ 16 * i → numberAt (putRow l i x f) k ≡ numberAt l k
-  unfolding putRow
-  number-below k h =
-      number-before t3 (16 * i + 12) f k (omega arith) ∙ number-before t2 (16 * i + 8) (kindOf x) k (omega arith)
-      ∙ number-before t1 (16 * i + 4) (nextOf x) k (omega arith) ∙ number-before l (16 * i) (placeAt x) k (omega arith)
+  pub row-below : (j : ℕ) → j < i → SameRow (putPlace l i p n k) l j
+  row-below j h =
+      (number-below (16 * j) (omega arith), number-below (16 * j + 4) (omega arith), number-below (16 * j + 8) (omega arith))
 
-  number-above : (k : ℕ) → 16 * i + 16 ≤ k → numberAt (putRow l i x f) k ≡ numberAt l k
-  unfolding putRow
-  number-above k h =
-      number-after t3 (16 * i + 12) f k (omega arith) ∙ number-after t2 (16 * i + 8) (kindOf x) k (omega arith)
-      ∙ number-after t1 (16 * i + 4) (nextOf x) k (omega arith) ∙ number-after l (16 * i) (placeAt x) k (omega arith)
+  pub place-below : (j : ℕ) → j < i → placeIn (putPlace l i p n k) j ≡ placeIn l j
+  place-below j h = place-same (putPlace l i p n k) l j (row-below j h)
 
-  pub place-below : (j : ℕ) → j < i → placeIn (putRow l i x f) j ≡ placeIn l j
-  unfolding placeIn
-  place-below j h =
-      rw (number-below (16 * j) (omega arith), number-below (16 * j + 4) (omega arith), number-below (16 * j + 8) (omega arith))
-
-  pub place-above : (j : ℕ) → i < j → placeIn (putRow l i x f) j ≡ placeIn l j
-  unfolding placeIn
-  place-above j h =
-      rw (number-above (16 * j) (omega arith), number-above (16 * j + 4) (omega arith), number-above (16 * j + 8) (omega arith))
-
-  module _ (h : 16 * i + 16 ≤ length l) (b : Fits x) where
-    put-address : numberAt (putRow l i x f) (16 * i) ≡ placeAt x
-    unfolding putRow
+  module _ (h : 16 * i + 16 ≤ length l) (bp : p < 2 ^ 32) (bn : n < 2 ^ 32) (bk : k < 2 ^ 32) where
+    put-address : numberAt (putPlace l i p n k) (16 * i) ≡ p
+    unfolding putPlace
     put-address =
-        number-before t3 (16 * i + 12) f (16 * i) (omega arith) ∙ number-before t2 (16 * i + 8) (kindOf x) (16 * i) (omega arith)
-        ∙ number-before t1 (16 * i + 4) (nextOf x) (16 * i) (omega arith) ∙ number-put l (16 * i) (placeAt x) (omega arith) (b .address)
+        number-before t2 (16 * i + 8) k (16 * i) (omega arith) ∙ number-before t1 (16 * i + 4) n (16 * i) (omega arith)
+        ∙ number-put l (16 * i) p (omega arith) bp
 
-    put-next : numberAt (putRow l i x f) (16 * i + 4) ≡ nextOf x
-    unfolding putRow
+    put-next : numberAt (putPlace l i p n k) (16 * i + 4) ≡ n
+    unfolding putPlace
     put-next =
-        number-before t3 (16 * i + 12) f (16 * i + 4) (omega arith) ∙ number-before t2 (16 * i + 8) (kindOf x) (16 * i + 4) (omega arith)
-        ∙ number-put t1 (16 * i + 4) (nextOf x) (simp length-put (omega arith)) (b .next)
+        number-before t2 (16 * i + 8) k (16 * i + 4) (omega arith) ∙ number-put t1 (16 * i + 4) n (simp length-put (omega arith)) bn
 
-    put-kind : numberAt (putRow l i x f) (16 * i + 8) ≡ kindOf x
-    unfolding putRow
-    put-kind =
-        number-before t3 (16 * i + 12) f (16 * i + 8) (omega arith)
-        ∙ number-put t2 (16 * i + 8) (kindOf x) (simp length-put (omega arith)) (kind-fits x)
+    put-kind : numberAt (putPlace l i p n k) (16 * i + 8) ≡ k
+    unfolding putPlace
+    put-kind = number-put t2 (16 * i + 8) k (simp length-put (omega arith)) bk
 
-    put-first : f < 2 ^ 32 → numberAt (putRow l i x f) (16 * i + 12) ≡ f
-    unfolding putRow
-    put-first k = number-put t3 (16 * i + 12) f (simp length-put (omega arith)) k
-
-    pub place-put : placeIn (putRow l i x f) i ≡ x
+    pub place-put : placeIn (putPlace l i p n k) i ≡ placeOf p n k
     unfolding placeIn
-    place-put = rw (put-kind, put-address, put-next) (by-kind x)
+    place-put = rw (put-address, put-next, put-kind)
 
-    -- the numbers of a table with one row more
-    pub row-put : f < 2 ^ 32 → numbersOf (putRow l i x f) (4 * (i + 1)) ≡ numbersOf l (4 * i) ++ (placeAt x ∷ nextOf x ∷ kindOf x ∷ f ∷ [])
-    unfolding numbersOf upTo
-    row-put k =
-        let r = putRow l i x f in
-        let s : 4 * (i + 1) ≡ suc (suc (suc (suc (4 * i)))) = omega arith in
-        let k0 : 4 * (4 * i) ≡ 16 * i = omega arith in
-        let k1 : 4 * suc (4 * i) ≡ 16 * i + 4 = omega arith in
-        let k2 : 4 * suc (suc (4 * i)) ≡ 16 * i + 8 = omega arith in
-        let k3 : 4 * suc (suc (suc (4 * i))) ≡ 16 * i + 12 = omega arith in
-        let e : numbersOf r (4 * i) ≡ numbersOf l (4 * i) = numbers-same r l (4 * i) (λ m q. number-below (4 * m) (omega arith)) in
-        rw (s, k0, k1, k2, k3, put-address, put-next, put-kind, put-first k, e) (simp append-assoc)
+    pub shows-put : Shows p n k → ShowsIn (putPlace l i p n k) i
+    shows-put s = rw (put-address, put-next, put-kind) s
 
--- a table with one place more
-pub places-put : (l : List ℕ) (n : ℕ) (x : Place) (f : ℕ) → 16 * n + 16 ≤ length l → Fits x
-    → placesIn (putRow l n x f) (n + 1) ≡ placesIn l n ++ (x ∷ [])
-unfolding placesIn upTo
-places-put l n x f h b =
-    let e : placesIn (putRow l n x f) n ≡ placesIn l n = places-same (putRow l n x f) l n (λ i k. place-below l n x f i k) in
-    rw (add-one n, place-put l n x f h b, e)
-
--- a row put anew with the place that it has
-pub place-kept : (l : List ℕ) (i : ℕ) (x : Place) (f j : ℕ) → 16 * i + 16 ≤ length l → Fits x → x ≡ placeIn l i
-    → placeIn (putRow l i x f) j ≡ placeIn l j
-place-kept l i x f j h b e = go (leb j i) refl
-  where
-    go : (t : Bool) → leb j i ≡ t → placeIn (putRow l i x f) j ≡ placeIn l j
-    go true q =
-        ⊎-elim (λ (k : j ≡ i). rw k (place-put l i x f h b ∙ e)) (λ (k : j < i). place-below l i x f j k) (eq-or-lt-of-le (leb-true j i q))
-    go false q = place-above l i x f j (leb-false j i q)
+    -- a table with one place more
+    pub places-put : placesIn (putPlace l i p n k) (i + 1) ≡ placesIn l i ++ (placeOf p n k ∷ [])
+    unfolding placesIn upTo
+    places-put =
+        let e : placesIn (putPlace l i p n k) i ≡ placesIn l i = places-same (putPlace l i p n k) l i place-below in
+        rw (add-one i, place-put, e)

@@ -1,4 +1,4 @@
-pub mod Named
+pub mod Control
 pub mod Table
 pub mod Walk
 pub mod Index

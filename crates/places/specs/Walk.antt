@@ -1,11 +1,13 @@
 -- What the code's walk answers, read with the table that it left.
 use Prim.Native.Nat.{ℕ, _≤_}
 use mathlib.Core.List.{List}
+use lib.Dec.{ltb}
+use Rattle.numbers.specs.Choice.{pick}
 use Rattle.model.specs.declared.Place.{Place}
 use Rattle.model.specs.Places.{allowed}
-use Rattle.model.specs.Walk.{Walked, table, refused, endless, tested}
-use Rattle.places.specs.declared.walk.Found.{Found}
-use Rattle.places.specs.declared.walk.Found.the-variants.{Places, Forbidden, NoRoom}
+use Rattle.model.specs.Walk.{Walked, table, refused, tested}
+use Rattle.places.specs.declared.worklist.Found.{Found}
+use Rattle.places.specs.declared.worklist.Found.the-variants.{Places, Forbidden, NoRoom}
 use Rattle.places.specs.Table.{placesIn}
 
 unfoldable pub seen : Found → List ℕ → Walked
@@ -13,11 +15,9 @@ seen (Places n) bytes = table (placesIn bytes n)
 seen (Forbidden a) bytes = refused 4 a
 seen (NoRoom a) bytes = refused 5 a
 
--- goes on with the places, if the walk has not ended
-unfoldable pub onward : (List Place → Walked) → Walked → Walked
-onward rest (table ps) = rest ps
-onward rest (refused n a) = refused n a
-onward rest endless = endless
+-- a count of places as an answer: one past the room says that there was none for the place at an address
+unfoldable pub counted : ℕ → ℕ → ℕ → Found
+counted room a n = pick (ltb room n) (NoRoom a) (Places n)
 
 -- a place handled, with nothing after it
 unfoldable pub handled : List ℕ → ℕ → ℕ → List Place → Place → Walked

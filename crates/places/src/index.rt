@@ -2,65 +2,47 @@
 ghost use mathlib.Core.Path.{_≡_};
 ghost use Prim.Native.Nat.{_+_, _*_, _≤_, _<_};
 ghost use lib.ListN.{length, getD, set};
-ghost use Rattle.numbers.specs.Choice.{pick};
-ghost use Rattle.places.specs.Table.{placesIn, numberOf};
-ghost use Rattle.places.specs.Index.{hash, Indexed};
-use crate::table::read_place;
-use crate::table::same_place;
-use model::Place;
+ghost use Rattle.places.specs.Table.{placeOf, placesIn, numberOf, Shows};
+ghost use Rattle.places.specs.Index.{hashOf, Indexed};
+use crate::table::is_place;
 
-fn hash(x: Place) -> usize
-    ensures { λ r. ⌜ r ≡ hash x ⌝ }
+fn hash(p: u32, n: u32) -> usize
+    ensures { λ r. ⌜ r ≡ hashOf p n ⌝ }
 {
-    match x {
-        Place::Pair(p, n) => {
-            let h = (p / 4 % 65536 + n / 4 % 65536 * 37) % 16384;
-            h as usize
-        }
-        Place::Held(p) => {
-            let h = (p / 4 % 65536 + 4099) % 16384;
-            h as usize
-        }
-    }
+    let h = (p / 4 % 65536 + n / 4 % 65536 * 37) % 8192;
+    h as usize
 }
 
-// The number found so far, or i where place i is the one: chains go from high numbers to low.
-fn better(best: usize, i: usize, hit: bool) -> usize
-    ensures { λ r. ⌜ r ≡ pick hit i best ⌝ }
-{
-    if hit {
-        return i;
-    }
-    best
-}
-
-// The number of a place among the first `count`: the lowest, and `count` where it is none of them.
+// The number of a place among the first `count`, and `count` where it is none of them. No two are the same, so the first met is it.
 pub fn find(
     places: &[u8],
-    heads: &[u16; 16384],
+    heads: &[u16; 8192],
     links: &[u16; 8192],
     count: usize,
-    x: Place,
+    p: u32,
+    n: u32,
+    kind: u32,
 ) -> usize
-    requires { ⌜ (16 * count ≤ length (now places)) × (count ≤ 8192) × Indexed (now places) count (now heads) (now links) ⌝ }
-    ensures { λ r. ⌜ r ≡ numberOf x (placesIn (now (places .entry)) count) ⌝ }
+    requires { ⌜ (16 * count ≤ length (now places)) × (count ≤ 8192) × Shows p n kind × Indexed (now places) count (now heads) (now links) ⌝ }
+    ensures { λ r. ⌜ r ≡ numberOf (placeOf p n kind) (placesIn (now (places .entry)) count) ⌝ }
 {
-    let mut best = count;
-    let mut j = heads[hash(x)] as usize;
+    let mut j = heads[hash(p, n)] as usize;
     while 0 < j {
         let i = j - 1;
-        best = better(best, i, same_place(read_place(places, i), x));
+        if is_place(places, i, p, n, kind) {
+            return i;
+        }
         j = links[i] as usize;
     }
-    best
+    count
 }
 
 // Row `count` comes to the index.
-pub fn enter(heads: &mut [u16; 16384], links: &mut [u16; 8192], count: usize, x: Place)
+pub fn enter(heads: &mut [u16; 8192], links: &mut [u16; 8192], count: usize, p: u32, n: u32)
     requires { ⌜ count < 8192 ⌝ }
-    ensures { λ _. ⌜ (now (heads .exit) ≡ set (now (heads .entry)) (hash x) (count + 1)) × (now (links .exit) ≡ set (now (links .entry)) count (getD (now (heads .entry)) (hash x) 0)) ⌝ }
+    ensures { λ _. ⌜ (now (heads .exit) ≡ set (now (heads .entry)) (hashOf p n) (count + 1)) × (now (links .exit) ≡ set (now (links .entry)) count (getD (now (heads .entry)) (hashOf p n) 0)) ⌝ }
 {
-    let h = hash(x);
+    let h = hash(p, n);
     links[count] = heads[h];
     heads[h] = (count + 1) as u16;
 }

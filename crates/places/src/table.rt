@@ -1,85 +1,66 @@
-// The place table: four numbers a row, big-endian, in bytes that the caller lends.
+// The place table: four numbers a row, big-endian, in bytes that the caller lends. A place goes as its address, next and kind, apart, since
+// an enum would go through memory.
 ghost use mathlib.Core.Path.{_≡_};
 ghost use Prim.Native.Nat.{_+_, _*_, _≤_};
 ghost use lib.ListN.{length};
-ghost use Rattle.model.specs.Places.{placeAt, nextOf, kindOf, samePlace};
-ghost use Rattle.places.specs.Table.{placeIn, putRow, Fits};
-use model::Place;
+ghost use lib.Dec.{eqb};
+ghost use Rattle.numbers.specs.Number.{numberAt};
+ghost use Rattle.model.specs.declared.Place.the-variants.{Pair};
+ghost use Rattle.model.specs.Places.{kindOf, samePlace};
+ghost use Rattle.places.specs.Table.{placeOf, placeIn, putPlace, Shows, ShowsIn};
 
-// The place of row i.
-pub fn read_place(places: &[u8], i: usize) -> Place
+// The kind of a place with a known next.
+pub fn pair_kind(p: u32, n: u32) -> u32
+    ensures { λ r. ⌜ r ≡ kindOf (Pair p n) ⌝ }
+{
+    if n == numbers::add(p, 4) {
+        return 0;
+    }
+    1
+}
+
+// The address of row i.
+pub fn address(places: &[u8], i: usize) -> u32
     requires { ⌜ 16 * i + 16 ≤ length (now places) ⌝ }
-    ensures { λ r. ⌜ r ≡ placeIn (now (places .entry)) i ⌝ }
+    ensures { λ r. ⌜ r ≡ numberAt (now (places .entry)) (16 * i) ⌝ }
 {
-    let at = 16 * i;
-    let p = numbers::read_number(places, at);
-    if numbers::read_number(places, at + 8) == 2 {
-        return Place::Held(p);
-    }
-    Place::Pair(p, numbers::read_number(places, at + 4))
+    numbers::read_number(places, 16 * i)
 }
 
-pub fn address(x: Place) -> u32
-    ensures { λ r. ⌜ r ≡ placeAt x ⌝ }
-{
-    match x {
-        Place::Pair(p, n) => p,
-        Place::Held(p) => p,
-    }
-}
-
-fn next(x: Place) -> u32
-    ensures { λ r. ⌜ r ≡ nextOf x ⌝ }
-{
-    match x {
-        Place::Pair(p, n) => n,
-        Place::Held(p) => 0,
-    }
-}
-
-fn kind(x: Place) -> u32
-    ensures { λ r. ⌜ r ≡ kindOf x ⌝ }
-{
-    match x {
-        Place::Pair(p, n) => {
-            if n == numbers::add(p, 4) {
-                return 0;
-            }
-            1
-        }
-        Place::Held(p) => 2,
-    }
-}
-
-// Makes row i a place with its first record.
-pub fn write_row(places: &mut [u8], i: usize, x: Place, first: u32)
+pub fn next(places: &[u8], i: usize) -> u32
     requires { ⌜ 16 * i + 16 ≤ length (now places) ⌝ }
-    ensures { λ _. ⌜ (now (places .exit) ≡ putRow (now (places .entry)) i x first) × Fits x ⌝ }
+    ensures { λ r. ⌜ r ≡ numberAt (now (places .entry)) (16 * i + 4) ⌝ }
 {
-    let at = 16 * i;
-    numbers::write_number(places, at, address(x));
-    numbers::write_number(places, at + 4, next(x));
-    numbers::write_number(places, at + 8, kind(x));
-    numbers::write_number(places, at + 12, first);
+    numbers::read_number(places, 16 * i + 4)
 }
 
-// Whether two places are the same.
-pub fn same_place(x: Place, y: Place) -> bool
-    ensures { λ r. ⌜ r ≡ samePlace x y ⌝ }
+pub fn is_held(places: &[u8], i: usize) -> bool
+    requires { ⌜ 16 * i + 16 ≤ length (now places) ⌝ }
+    ensures { λ r. ⌜ r ≡ eqb (numberAt (now (places .entry)) (16 * i + 8)) 2 ⌝ }
 {
-    match x {
-        Place::Pair(p, n) => match y {
-            Place::Pair(q, o) => {
-                if p == q {
-                    return n == o;
-                }
-                false
-            }
-            Place::Held(q) => false,
-        },
-        Place::Held(p) => match y {
-            Place::Pair(q, o) => false,
-            Place::Held(q) => p == q,
-        },
+    numbers::read_number(places, 16 * i + 8) == 2
+}
+
+// Makes row i a place. Its first record stays as it is.
+pub fn write_place(places: &mut [u8], i: usize, p: u32, n: u32, kind: u32)
+    requires { ⌜ 16 * i + 16 ≤ length (now places) ⌝ }
+    ensures { λ _. ⌜ now (places .exit) ≡ putPlace (now (places .entry)) i p n kind ⌝ }
+{
+    numbers::write_number(places, 16 * i, p);
+    numbers::write_number(places, 16 * i + 4, n);
+    numbers::write_number(places, 16 * i + 8, kind);
+}
+
+// Whether row i is a place.
+pub fn is_place(places: &[u8], i: usize, p: u32, n: u32, kind: u32) -> bool
+    requires { ⌜ (16 * i + 16 ≤ length (now places)) × Shows p n kind × ShowsIn (now places) i ⌝ }
+    ensures { λ r. ⌜ r ≡ samePlace (placeIn (now (places .entry)) i) (placeOf p n kind) ⌝ }
+{
+    if numbers::read_number(places, 16 * i) != p {
+        return false;
     }
+    if numbers::read_number(places, 16 * i + 4) != n {
+        return false;
+    }
+    numbers::read_number(places, 16 * i + 8) == kind
 }

@@ -1,79 +1,44 @@
-// The worklist: places are handled in number order, and each adds those of its followers that are not yet present.
+// The walk: places are handled in number order, and each adds those of its followers that are not yet present.
+ghost use mathlib.Core.Path.{_≡_};
 ghost use Prim.Native.Nat.{_+_, _*_, _≤_, _<_, suc};
-ghost use mathlib.Core.List.{[], _∷_};
+ghost use mathlib.Core.List.{[]};
 ghost use lib.ListN.{length};
+ghost use Rattle.numbers.specs.Choice.{pick};
 ghost use Rattle.numbers.specs.Number.{numbersOf};
-ghost use Rattle.model.specs.Places.{plains};
+ghost use Rattle.model.specs.Places.{mayBeHeld, plains};
 ghost use Rattle.model.specs.Walk.{grow, walk, placesOf};
+ghost use Rattle.places.specs.declared.worklist.Found.the-variants.{Places, Forbidden};
+ghost use Rattle.places.specs.Control.{transferred};
 ghost use Rattle.places.specs.Table.{placeIn, placesIn};
-ghost use Rattle.places.specs.Index.{Indexed, IndexedBy, Known};
-ghost use Rattle.places.specs.Walk.{seen, onward, handled, Within};
-use crate::followers::Followers;
-use crate::followers::allowed;
-use crate::followers::followers_of;
-use crate::followers::plain;
-use crate::index::enter;
-use crate::index::find;
+ghost use Rattle.places.specs.Index.{Indexed, Known};
+ghost use Rattle.places.specs.Walk.{handled};
+use crate::control::Fetched;
+use crate::control::fetch;
+use crate::control::may_be_held;
 use crate::table::address;
-use crate::table::read_place;
-use crate::table::write_row;
-use model::Place;
+use crate::table::is_held;
+use crate::table::next;
+use crate::worklist::Found;
+use crate::worklist::add_names;
+use crate::worklist::add_plain;
+use words::Flow;
 
-// How the walk stands, or ended: so many places, a held place with a forbidden word, a place for which there is no room.
-pub enum Found {
-    Places(usize),
-    Forbidden(u32),
-    NoRoom(u32),
-}
-
-// Gives a place the next number, unless it is present.
-fn add_place(
-    places: &mut [u8],
-    heads: &mut [u16; 16384],
-    links: &mut [u16; 8192],
-    count: usize,
-    room: usize,
-    x: Place,
-) -> Found
-    requires { ⌜ (count ≤ room) × (16 * room ≤ length (now places)) × (room ≤ 8192) × Indexed (now places) count (now heads) (now links) ⌝ }
-    ensures { λ r. ⌜ Known room (grow room (placesIn (now (places .entry)) count) (x ∷ [])) r (now (places .exit)) (now (heads .exit)) (now (links .exit)) ⌝ }
+// Handles a held place: it has no followers, but its word is tested.
+fn handle_held(count: usize, f: Flow, p: u32) -> Found
+    ensures { λ r. ⌜ r ≡ pick (mayBeHeld (transferred f)) (Places count) (Forbidden p) ⌝ }
 {
-    if find(places, heads, links, count, x) < count {
+    if may_be_held(f) {
         return Found::Places(count);
     }
-    if count < room {
-        write_row(places, count, x, 0);
-        enter(heads, links, count, x);
-        return Found::Places(count + 1);
-    }
-    Found::NoRoom(address(x))
+    Found::Forbidden(p)
 }
 
-// Adds a place, if the walk has not ended.
-fn then_add(
-    places: &mut [u8],
-    heads: &mut [u16; 16384],
-    links: &mut [u16; 8192],
-    w: Found,
-    room: usize,
-    x: Place,
-) -> Found
-    requires { ⌜ Within room w × (16 * room ≤ length (now places)) × (room ≤ 8192) × IndexedBy w (now places) (now heads) (now links) ⌝ }
-    ensures { λ r. ⌜ Known room (onward (λ ps. grow room ps (x ∷ [])) (seen w (now (places .entry)))) r (now (places .exit)) (now (heads .exit)) (now (links .exit)) ⌝ }
-{
-    match w {
-        Found::Places(n) => add_place(places, heads, links, n, room, x),
-        Found::Forbidden(a) => Found::Forbidden(a),
-        Found::NoRoom(a) => Found::NoRoom(a),
-    }
-}
-
-// Handles place `at`: a held place's word is tested, then its followers are added in order.
+// Handles place `at`: a held place's word is tested, another's followers are added in order.
 fn handle(
     image: &[u8],
     base: u32,
     places: &mut [u8],
-    heads: &mut [u16; 16384],
+    heads: &mut [u16; 8192],
     links: &mut [u16; 8192],
     count: usize,
     room: usize,
@@ -82,18 +47,18 @@ fn handle(
     requires { ⌜ (at < count) × (count ≤ room) × (16 * room ≤ length (now places)) × (room ≤ 8192) × Indexed (now places) count (now heads) (now links) ⌝ }
     ensures { λ r. ⌜ Known room (handled (now (image .entry)) base room (placesIn (now (places .entry)) count) (placeIn (now (places .entry)) at)) r (now (places .exit)) (now (heads .exit)) (now (links .exit)) ⌝ }
 {
-    let x = read_place(places, at);
-    if !allowed(image, base, x) {
-        return Found::Forbidden(address(x));
-    }
-    let f = followers_of(image, base, x);
+    let p = address(places, at);
+    let f = fetch(image, base, p);
     match f {
-        Followers::Nothing => Found::Places(count),
-        Followers::One(a) => add_place(places, heads, links, count, room, a),
-        Followers::Two(a, b) => {
-            let w = add_place(places, heads, links, count, room, a);
-            then_add(places, heads, links, w, room, b)
+        Fetched::Word(word) => {
+            let flow = words::read_flow(word);
+            if is_held(places, at) {
+                return handle_held(count, flow, p);
+            }
+            let n = next(places, at);
+            add_names(places, heads, links, count, room, flow, p, n)
         }
+        Fetched::Outside => Found::Places(count),
     }
 }
 
@@ -102,7 +67,7 @@ fn walk(
     image: &[u8],
     base: u32,
     places: &mut [u8],
-    heads: &mut [u16; 16384],
+    heads: &mut [u16; 8192],
     links: &mut [u16; 8192],
     count: usize,
     room: usize,
@@ -135,7 +100,7 @@ fn start(
     entries: &[u8],
     k: usize,
     places: &mut [u8],
-    heads: &mut [u16; 16384],
+    heads: &mut [u16; 8192],
     links: &mut [u16; 8192],
     room: usize,
 ) -> Found
@@ -146,7 +111,7 @@ fn start(
     let mut j: usize = 0;
     while j < k {
         let e = numbers::read_number(entries, 4 * j);
-        let w = add_place(places, heads, links, n, room, plain(e));
+        let w = add_plain(places, heads, links, n, room, e);
         match w {
             Found::Places(m) => {
                 n = m;
@@ -170,7 +135,7 @@ pub fn find_places(
     entries: &[u8],
     k: usize,
     places: &mut [u8],
-    heads: &mut [u16; 16384],
+    heads: &mut [u16; 8192],
     links: &mut [u16; 8192],
     room: usize,
 ) -> Found

@@ -5,10 +5,8 @@ use Rattle.numbers.proofs.Areas.{bytes-of-numbers}
 use Rattle.numbers.specs.Number.{upTo, numbersOf, bytesOf, zeroFrom}
 use Rattle.model.specs.declared.Place.{Place}
 use Rattle.model.specs.Cases.{answered}
-use Rattle.model.specs.Places.{plain}
-use Rattle.places.specs.declared.walk.Found.the-variants.{Places}
-use Rattle.places.proofs.Rows.{length-places, place-of}
-use Rattle.places.proofs.Chains.{index-same}
+use Rattle.places.specs.declared.worklist.Found.the-variants.{Places}
+use Rattle.places.proofs.Rows.{length-places}
 use Rattle.places.specs.Table.{placesIn}
 use Rattle.translator.proofs.Laying.{first-laid}
 use Rattle.translator.proofs.Putting.{records-same, records-length}
@@ -27,10 +25,9 @@ use Rattle.model.specs.Records.{rowsOf, recordsOf, recordsFrom, recordsNumbers,
 use Rattle.model.specs.declared.Answer.{Answer}
 use Rattle.model.specs.declared.Answer.the-variants.{Accepted, ImageLength, Base, Entry, Forbidden, NoRoom, RecordsShort}
 use Rattle.model.proofs.Answer.{the-type as answer}
-use Rattle.places.specs.declared.walk.Found.{Found}
-use Rattle.places.specs.declared.walk.Found.the-variants as Found·
+use Rattle.places.specs.declared.worklist.Found.{Found}
+use Rattle.places.specs.declared.worklist.Found.the-variants as Found·
 use Rattle.places.specs.Walk.{seen}
-use Rattle.places.specs.Index.{Indexed}
 use Rattle.translator.specs.Handing.{placesCounted, recordsCounted, Attempted, handed}
 
 -- a refusal counts nothing; the numbers are those of the variants, in the order of the enum
@@ -120,14 +117,6 @@ pub ends-places : (image : List ℕ) (base : ℕ) (es : List ℕ) (rl position :
     → fromWalk image base es pl rl position (seen w u) ≡ fromWalk image base es ql rl position (table (placesIn u n))
 unfolding seen
 ends-places image base es rl position u l e = rw (e, l)
-
--- the index of a table after its first records are set
-pub index-laid : (image : List ℕ) (base : ℕ) (l t heads links : List ℕ) (count r : ℕ) → Laid image base (placesIn l count) count t r
-    → Indexed l count heads links → Indexed t count heads links
-index-laid image base l t heads links count r d x =
-    index-same l t heads links count
-    (λ i h. sym (place-of l count i (plain 0) h) ∙ ap (λ (ps : List Place). getD ps i (plain 0)) (sym (d .kept)) ∙ place-of t count i (plain 0) h)
-    x
 
 -- a buffer that is cleared past its numbers
 cleared : (l : List ℕ) (n : ℕ) → 4 * n ≤ length l → ((i : ℕ) → getD l i 0 < 256) → zeroFrom (4 * n) l ≡ filled (numbersOf l n) (length l)

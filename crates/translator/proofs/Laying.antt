@@ -1,14 +1,15 @@
 -- Laws of the layout: how many records there are, the table's numbers, the first record of a place.
 use native.Mathlib.Nat.{zero-add}
 use Rattle.numbers.proofs.Lists.{get-up, drop-up, drop-all-up}
-use Rattle.numbers.specs.Number.{numberAt, numbersOf}
+use Rattle.numbers.proofs.Areas.{number-put, numbers-same, number-before, number-after}
+use Rattle.numbers.specs.Number.{numberAt, putNumber, upTo, numbersOf}
 use Rattle.numbers.specs.Choice.{pick}
 use Rattle.model.specs.declared.Place.{Place}
 use Rattle.model.specs.Places.{kindOf, nextOf, placeAt, samePlace}
-use Rattle.places.proofs.Rows.{length-places, places-same, place-kept, row-put}
-use borrow.Author.Tests.{ltb-true, ltb-false}
+use Rattle.places.proofs.Rows.{length-places, places-same, place-same, shows-same, at-place}
+use borrow.Author.Tests.{ltb-true, ltb-false, leb-true, leb-false}
 use lib.ListN.{length, getD, drop}
-use lib.Dec.{ltb}
+use lib.Dec.{leb, ltb}
 use native.Mathlib.Numerals.{add-one}
 use native.Mathlib.Omega.{arith}
 use mathlib.Core.List.{List, [], _∷_, _++_, append-nil, append-assoc}
@@ -16,8 +17,8 @@ use mathlib.Core.Bool.{Bool, true, false}
 use mathlib.Core.Path.{_≡_, refl, sym, ap, _∙_}
 use Prim.Native.Nat.{ℕ, suc, _+_, _*_, _^_, _≤_, _<_}
 use Rattle.model.specs.Records.{Group, one, two, group, past, first, rowsFrom, tableNumbers}
-use Rattle.places.specs.Table.{placeIn, placesIn, putRow, numberOf, Fits}
-use Rattle.translator.specs.Layout.{needed, firstIn, Laid}
+use Rattle.places.specs.Table.{placeIn, ShowsIn, SameRow, placesIn, numberOf}
+use Rattle.translator.specs.Layout.{size, needed, firstIn, Laid}
 
 -- a group has one record or two
 pub past-le : (g : Group Place) (n : ℕ) → past g n ≤ n + 2
@@ -56,32 +57,88 @@ pub no-place : (l : List ℕ) (n i : ℕ) → n ≤ i → drop i (placesIn l n) 
 unfolding placesIn
 no-place l n i h = drop-all-up (placeIn l) n i h
 
+-- a first record put in row i: the places stay, and the row's numbers are whole
+module _ (l : List ℕ) (i v : ℕ) where
+  abbrev l+ : List ℕ
+  l+ = putNumber l (16 * i + 12) v
+
+  pub row-kept : (j : ℕ) → SameRow l+ l j
+  row-kept j = go (leb j i) refl
+    where
+      go : (b : Bool) → leb j i ≡ b → SameRow l+ l j
+      go true e =
+          let h : j ≤ i = leb-true j i e in (
+            number-before l (16 * i + 12) v (16 * j) (omega arith),
+            number-before l (16 * i + 12) v (16 * j + 4) (omega arith),
+            number-before l (16 * i + 12) v (16 * j + 8) (omega arith),
+          )
+      go false e =
+          let h : i < j = leb-false j i e in (
+            number-after l (16 * i + 12) v (16 * j) (omega arith),
+            number-after l (16 * i + 12) v (16 * j + 4) (omega arith),
+            number-after l (16 * i + 12) v (16 * j + 8) (omega arith),
+          )
+
+  row-put : ShowsIn l i → 16 * i + 16 ≤ length l → v < 2 ^ 32
+      → numbersOf l+ (4 * (i + 1)) ≡ numbersOf l (4 * i) ++ (placeAt (placeIn l i) ∷ nextOf (placeIn l i) ∷ kindOf (placeIn l i) ∷ v ∷ [])
+  unfolding numbersOf upTo placeIn
+  row-put s h b =
+      let c : 4 * (i + 1) ≡ suc (suc (suc (suc (4 * i)))) = omega arith in
+      let k0 : 4 * (4 * i) ≡ 16 * i = omega arith in
+      let k1 : 4 * suc (4 * i) ≡ 16 * i + 4 = omega arith in
+      let k2 : 4 * suc (suc (4 * i)) ≡ 16 * i + 8 = omega arith in
+      let k3 : 4 * suc (suc (suc (4 * i))) ≡ 16 * i + 12 = omega arith in
+      let e : numbersOf l+ (4 * i) ≡ numbersOf l (4 * i) = numbers-same l+ l (4 * i) (λ m q. number-before l (16 * i + 12) v (4 * m) (omega arith)) in
+      let r = row-kept i in
+      rw (c, k0, k1, k2, k3, r .0, r .1, r .2, number-put l (16 * i + 12) v (omega arith) b, e, at-place (numberAt l (16 * i)) (numberAt l (16 * i + 4)) (numberAt l (16 * i + 8)), s .its-next, s .its-kind)
+      (simp append-assoc)
+
+-- how many records a group has
+pub past-size : (g : Group Place) (n : ℕ) → past g n ≡ n + size g
+unfolding past size
+past-size (one r) n = omega arith
+past-size (two r s) n = omega arith
+
+pub size-le : (g : Group Place) → size g ≤ 2
+unfolding size
+size-le (one r) = omega arith
+size-le (two r s) = omega arith
+
+pub size-bound : (g : Group Place) {r : ℕ} → r ≡ size g → r ≤ 2
+size-bound g e = rw e (size-le g)
+
+pub row-trans : (l m o : List ℕ) (j : ℕ) → SameRow l m j → SameRow m o j → SameRow l o j
+row-trans l m o j s t = (s .0 ∙ t .0, s .1 ∙ t .1, s .2 ∙ t .2)
+
 -- a turn of the layout, and its end
-module _ (image : List ℕ) (base : ℕ) (l l0 : List ℕ) (count i n : ℕ) (same : (j : ℕ) → placeIn l j ≡ placeIn l0 j) where
-  pub lay-turn : {x : Place} {g : Group Place} {all : ℕ} {R : List ℕ} → i < count → x ≡ placeIn l i → g ≡ group image base x → Fits x
-      → 16 * i + 16 ≤ length l → n < 2 ^ 32 → n + needed image base (drop i (placesIn l0 count)) ≡ all
-      → numbersOf l (4 * i) ++ tableNumbers (rowsFrom image base n (drop i (placesIn l0 count))) ≡ R
-      → ((j : ℕ) → placeIn (putRow l i x n) j ≡ placeIn l0 j)
-      × (past g n + needed image base (drop (i + 1) (placesIn l0 count)) ≡ all)
-      × (numbersOf (putRow l i x n) (4 * (i + 1)) ++ tableNumbers (rowsFrom image base (past g n) (drop (i + 1) (placesIn l0 count))) ≡ R)
-  lay-turn {x} {g} {all} {R} h ex eg f room b ea er =
-      let c : drop i (placesIn l0 count) ≡ x ∷ drop (i + 1) (placesIn l0 count) = next-place l0 count i (ex ∙ same i) h in (
-        λ j. place-kept l i x n j room f ex ∙ same j,
-        needed-turn image base c eg n all ea,
-        rw (row-put l i x n room f b) (rw append-assoc (rw (rows-turn image base c eg n) at er)),
+abbrev pub Laying : List ℕ → ℕ → List ℕ → List Place → ℕ → ℕ → Type 0
+Laying image base l ps i n =
+    (n + needed image base (drop i ps) ≡ needed image base ps)
+    × (numbersOf l (4 * i) ++ tableNumbers (rowsFrom image base n (drop i ps)) ≡ tableNumbers (rowsFrom image base 0 ps))
+
+module _ (image : List ℕ) (base : ℕ) (l l0 : List ℕ) (count i n : ℕ) (same : (j : ℕ) → SameRow l l0 j) where
+  pub lay-turn : {k : ℕ} → i < count → k ≡ size (group image base (placeIn l i)) → ShowsIn l0 i → 16 * i + 16 ≤ length l → n < 2 ^ 32
+      → Laying image base l (placesIn l0 count) i n
+      → Laying image base (putNumber l (16 * i + 12) n) (placesIn l0 count) (i + 1) (n + k)
+  lay-turn {k} h ek s room b y =
+      let x = placeIn l i in
+      let g = group image base x in
+      let c : drop i (placesIn l0 count) ≡ x ∷ drop (i + 1) (placesIn l0 count) = next-place l0 count i (place-same l l0 i (same i)) h in
+      let m : n + k ≡ past g n = ap (λ (v : ℕ). n + v) ek ∙ sym (past-size g n) in
+      rw (m, row-put l i n (shows-same l l0 i (same i) s) room b) (
+        needed-turn image base c refl n (needed image base (placesIn l0 count)) (y .0),
+        rw append-assoc (rw (rows-turn image base c refl n) at (y .1)),
       )
 
-  pub lay-end : i ≤ count → count ≤ i → n + needed image base (drop i (placesIn l0 count)) ≡ needed image base (placesIn l0 count)
-      → numbersOf l (4 * i) ++ tableNumbers (rowsFrom image base n (drop i (placesIn l0 count))) ≡ tableNumbers (rowsFrom image base 0 (placesIn l0 count))
-      → Laid image base (placesIn l0 count) count l n
+  pub lay-end : i ≤ count → count ≤ i → Laying image base l (placesIn l0 count) i n → Laid image base (placesIn l0 count) count l n
   unfolding needed rowsFrom tableNumbers
-  lay-end h k ea er =
+  lay-end h k y =
       let e : i ≡ count = omega arith in
       let d : drop i (placesIn l0 count) ≡ [] = no-place l0 count i k in
       record {
-        all = omega (arith, rw d at ea);
-        kept = places-same l l0 count (λ j m. same j);
-        numbers = sym (append-nil (numbersOf l (4 * count))) ∙ (rw (d, e) at er);
+        all = omega (arith, rw d at (y .0));
+        kept = places-same l l0 count (λ j m. place-same l l0 j (same j));
+        numbers = sym (append-nil (numbersOf l (4 * count))) ∙ (rw (d, e) at (y .1));
       }
 
 -- the first record of a place that is in the list stands in its row; of another it is the number of all records

@@ -1,4 +1,4 @@
-pub mod Wording
+pub mod Grouping
 pub mod Laying
 pub mod Putting
 pub mod Checking

@@ -4,7 +4,7 @@ use Rattle.numbers.proofs.Areas.{numbers-put}
 use Rattle.numbers.specs.Number.{putNumber, numbersOf}
 use Rattle.model.specs.declared.Place.{Place}
 use Rattle.translator.proofs.Laying.{next-place, no-place, needed-turn}
-use Rattle.translator.specs.Layout.{needed}
+use Rattle.translator.specs.Layout.{needed, Puts}
 use lib.ListN.{length, drop}
 use native.Mathlib.Numerals.{add-one}
 use native.Mathlib.Omega.{arith}
@@ -13,10 +13,6 @@ use mathlib.Core.Path.{_≡_, refl, sym, ap, _∙_, fun-ext}
 use Prim.Native.Nat.{ℕ, suc, _+_, _*_, _^_, _≤_, _<_}
 use Rattle.model.specs.Records.{Rec, doWord, link, hold, goIf, goTo, goHeld, stop, unknown, Group, one, two, group, past, numbered, put, recordsFrom, recordNumbers, recordsNumbers}
 use Rattle.places.specs.Table.{placeIn, placesIn}
-use Rattle.translator.specs.Groups.{recOf, groupFrom}
-use Rattle.translator.specs.declared.groups.Record.{Record}
-use Rattle.translator.specs.declared.groups.Group.the-variants.{One, Two}
-use Rattle.translator.specs.declared.groups as code
 
 -- three numbers put in a row
 pub record-put : (l : List ℕ) (at a b c : ℕ) → 12 * at + 12 ≤ length l → a < 2 ^ 32 → b < 2 ^ 32 → c < 2 ^ 32
@@ -62,48 +58,58 @@ put-append f (two r s) rest =
     ∙ rw (record-append (numbered f s) (recordsNumbers rest), record-append (numbered f r) (recordNumbers (numbered f s) [])) (simp append-assoc)
 
 -- a group put, of one record or of two, from the numbers that each record's put left
-module _ (f : Place → ℕ) (at : ℕ) (l0 l1 : List ℕ) {g : code.Group.Group} where
-  pub put-one : {r : Record} {v : List ℕ} → g ≡ One r → v ≡ recordNumbers (numbered f (recOf r)) []
-      → numbersOf l1 (3 * at + 3) ≡ numbersOf l0 (3 * at) ++ v
-      → numbersOf l1 (3 * past (groupFrom g) at) ≡ numbersOf l0 (3 * at) ++ recordsNumbers (put f (groupFrom g) [])
-  unfolding groupFrom past put recordsNumbers
-  put-one e ev h = let k : 3 * suc at ≡ 3 * at + 3 = omega arith in rw (e, k, ← ev) h
+module _ (f : Place → ℕ) (at : ℕ) (l0 l1 : List ℕ) where
+  pub puts-one : (x : Rec Place) {v : List ℕ} → recordNumbers (numbered f x) [] ≡ v → numbersOf l1 (3 * at + 3) ≡ numbersOf l0 (3 * at) ++ v
+      → Puts f (one x) at l0 l1 (at + 1)
+  unfolding past put recordsNumbers
+  puts-one x e h =
+      let k : 3 * suc at ≡ 3 * at + 3 = omega arith in
+      record { reaches = add-one at; numbers = rw (k, e) h }
 
-  pub put-two : (l2 : List ℕ) {r s : Record} {v w : List ℕ} → g ≡ Two r s → v ≡ recordNumbers (numbered f (recOf r)) []
-      → w ≡ recordNumbers (numbered f (recOf s)) [] → numbersOf l1 (3 * at + 3) ≡ numbersOf l0 (3 * at) ++ v
-      → numbersOf l2 (3 * (at + 1) + 3) ≡ numbersOf l1 (3 * (at + 1)) ++ w
-      → numbersOf l2 (3 * past (groupFrom g) at) ≡ numbersOf l0 (3 * at) ++ recordsNumbers (put f (groupFrom g) [])
-  unfolding groupFrom past put recordsNumbers
-  put-two l2 {r} {s} {v} {w} e ev ew h i =
+  pub puts-two : (l2 : List ℕ) (x y : Rec Place) {v w : List ℕ} → recordNumbers (numbered f x) [] ≡ v → recordNumbers (numbered f y) [] ≡ w
+      → numbersOf l1 (3 * at + 3) ≡ numbersOf l0 (3 * at) ++ v → numbersOf l2 (3 * (at + 1) + 3) ≡ numbersOf l1 (3 * (at + 1)) ++ w
+      → Puts f (two x y) at l0 l2 (at + 2)
+  unfolding past put recordsNumbers
+  puts-two l2 x y {v} {w} e d h i =
       let k : 3 * suc (suc at) ≡ 3 * (at + 1) + 3 = omega arith in
       let m : 3 * (at + 1) ≡ 3 * at + 3 = omega arith in
-      rw (e, k) (i ∙ rw (m, h, ev, ew, append-assoc (numbersOf l0 (3 * at)) (recordNumbers (numbered f (recOf r)) []) (recordNumbers (numbered f (recOf s)) []))
-      (ap (λ (t : List ℕ). numbersOf l0 (3 * at) ++ t) (sym (record-append (numbered f (recOf r)) (recordNumbers (numbered f (recOf s)) [])))))
+      record {
+        reaches = omega arith;
+        numbers = rw k (i ∙ rw (m, h, append-assoc (numbersOf l0 (3 * at)) v w)
+            (ap (λ (t : List ℕ). numbersOf l0 (3 * at) ++ t) (sym (record-append (numbered f x) (recordNumbers (numbered f y) []) ∙ rw (e, d)))));
+      }
 
--- how far a group reaches
-pub past-one : {g : code.Group.Group} {r : Record} (at : ℕ) → g ≡ One r → past (groupFrom g) at ≡ at + 1
-unfolding groupFrom past
-past-one at e = rw e (sym (add-one at))
+pub puts-as : {f : Place → ℕ} {g h : Group Place} {at : ℕ} {l m : List ℕ} {r : ℕ} → g ≡ h → Puts f h at l m r → Puts f g at l m r
+puts-as e x = rw e x
 
-pub past-two : {g : code.Group.Group} {r s : Record} (at : ℕ) → g ≡ Two r s → past (groupFrom g) at ≡ at + 2
-unfolding groupFrom past
-past-two at e = rw e (omega arith)
+-- the room that a group takes
+pub room-one : (at : ℕ) {g : Group Place} {x : Rec Place} {all : ℕ} → g ≡ one x → 12 * past g at ≤ all → 12 * at + 12 ≤ all
+unfolding past
+room-one at {g} {x} {all} e h = let k : 12 * suc at ≤ all = rw e at h in omega (arith, k)
+
+pub room-two : (at : ℕ) {g : Group Place} {x y : Rec Place} {all : ℕ} → g ≡ two x y → 12 * past g at ≤ all → 12 * at + 24 ≤ all
+unfolding past
+room-two at {g} {x} {y} {all} e h = let k : 12 * suc (suc at) ≤ all = rw e at h in omega (arith, k)
+
+pub room-as : (at : ℕ) {g h : Group Place} {all : ℕ} → g ≡ h → 12 * past g at ≤ all → 12 * past h at ≤ all
+room-as at e k = rw e at k
 
 -- a turn over the places, and its end
 module _ (image : List ℕ) (base : ℕ) (places : List ℕ) (count i at : ℕ) (f : Place → ℕ) where
-  pub put-turn : {x : Place} {g : Group Place} {all : ℕ} {R : List ℕ} (r r′ : List ℕ) → i < count → x ≡ placeIn places i → g ≡ group image base x
+  pub put-turn : {all : ℕ} {R : List ℕ} (r r′ : List ℕ) (at′ : ℕ) → i < count
       → at + needed image base (drop i (placesIn places count)) ≡ all
       → numbersOf r (3 * at) ++ recordsNumbers (recordsFrom image base f (drop i (placesIn places count))) ≡ R
-      → numbersOf r′ (3 * past g at) ≡ numbersOf r (3 * at) ++ recordsNumbers (put f g [])
-      → (past g at + needed image base (drop (i + 1) (placesIn places count)) ≡ all)
-      × (numbersOf r′ (3 * past g at) ++ recordsNumbers (recordsFrom image base f (drop (i + 1) (placesIn places count))) ≡ R)
+      → Puts f (group image base (placeIn places i)) at r r′ at′
+      → (at′ + needed image base (drop (i + 1) (placesIn places count)) ≡ all)
+      × (numbersOf r′ (3 * at′) ++ recordsNumbers (recordsFrom image base f (drop (i + 1) (placesIn places count))) ≡ R)
   unfolding recordsFrom
-  put-turn {x} {g} {all} {R} r r′ h ex eg ea er ep =
-      let c = next-place places count i ex h in
+  put-turn {all} {R} r r′ at′ h ea er y =
+      let g = group image base (placeIn places i) in
+      let c = next-place places count i refl h in
       let t : recordsNumbers (recordsFrom image base f (drop i (placesIn places count)))
       ≡ recordsNumbers (put f g []) ++ recordsNumbers (recordsFrom image base f (drop (i + 1) (placesIn places count))) =
-      rw (c, ← eg) (put-append f g (recordsFrom image base f (drop (i + 1) (placesIn places count)))) in
-      (needed-turn image base c eg at all ea, rw ep (rw append-assoc (rw t at er)))
+      rw c (put-append f g (recordsFrom image base f (drop (i + 1) (placesIn places count)))) in
+      rw (y .reaches) (needed-turn image base c refl at all ea, rw (y .numbers) (rw append-assoc (rw t at er)))
 
   pub put-end : {all : ℕ} (r : List ℕ) → count ≤ i → at + needed image base (drop i (placesIn places count)) ≡ all
       → numbersOf r (3 * at) ++ recordsNumbers (recordsFrom image base f (drop i (placesIn places count))) ≡ recordsNumbers (recordsFrom image base f (placesIn places count))

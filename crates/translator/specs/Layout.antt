@@ -1,13 +1,18 @@
--- Where the groups stand: the records in all, and the first record of a place as the table has it.
+-- Where the groups stand: the records in all, the first record of a place as the table has it, and a group that was put.
 use Prim.Native.Nat.{ℕ, _+_, _*_}
 use mathlib.Core.Path.{_≡_}
-use mathlib.Core.List.{List, [], _∷_}
+use mathlib.Core.List.{List, [], _∷_, _++_}
 use lib.Dec.{ltb}
 use Rattle.numbers.specs.Choice.{pick}
 use Rattle.numbers.specs.Number.{numberAt, numbersOf}
 use Rattle.model.specs.declared.Place.{Place}
-use Rattle.model.specs.Records.{group, past, rowsFrom, tableNumbers}
+use Rattle.model.specs.Records.{Group, one, two, group, past, put, rowsFrom, tableNumbers, recordsNumbers}
 use Rattle.places.specs.Table.{placesIn, numberOf}
+
+-- the records of a group
+unfoldable pub size : Group Place → ℕ
+size (one r) = 1
+size (two r s) = 2
 
 -- the records that the groups of a list of places have
 unfoldable pub needed : List ℕ → ℕ → List Place → ℕ
@@ -24,3 +29,8 @@ pub record Laid (image : List ℕ) (base : ℕ) (ps : List Place) (count : ℕ) 
   pub all : r ≡ needed image base ps
   pub kept : placesIn bytes count ≡ ps
   pub numbers : numbersOf bytes (4 * count) ≡ tableNumbers (rowsFrom image base 0 ps)
+
+-- a group put from record `at` on: how far it reaches, and the numbers up to there
+pub record Puts (f : Place → ℕ) (g : Group Place) (at : ℕ) (before after : List ℕ) (r : ℕ) : Type 0 where
+  pub reaches : r ≡ past g at
+  pub numbers : numbersOf after (3 * past g at) ≡ numbersOf before (3 * at) ++ recordsNumbers (put f g [])

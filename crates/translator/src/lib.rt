@@ -11,10 +11,9 @@ ghost use Rattle.places.specs.Table.{placesIn};
 ghost use Rattle.places.specs.Index.{Indexed};
 ghost use Rattle.translator.specs.Handing.{badFrom, placesCounted, recordsCounted, Attempted, Translates};
 use model::Answer;
-use places::walk::Found;
 use places::walk::find_places;
+use places::worklist::Found;
 
-pub mod groups;
 pub mod layout;
 pub mod records;
 
@@ -81,7 +80,7 @@ fn finish(
     image: &[u8],
     base: u32,
     places: &mut [u8],
-    heads: &[u16; 16384],
+    heads: &[u16; 8192],
     links: &[u16; 8192],
     count: usize,
     records: &mut [u8],
@@ -116,7 +115,7 @@ fn attempt(image: &[u8], base: u32, entries: &[u8], places: &mut [u8], records: 
     if bad != 0 {
         return Answer::Entry(bad);
     }
-    let mut heads = [0u16; 16384];
+    let mut heads = [0u16; 8192];
     let mut links = [0u16; 8192];
     let room = place_room(places.len());
     let w = find_places(

@@ -1,9 +1,12 @@
 // SPARC V8 instruction words: the fields cut from a word, the instruction that it reads as, and the conditions.
 ghost use mathlib.Core.Path.{_≡_};
-ghost use Prim.Native.Nat.{_<_};
+ghost use Prim.Native.Nat.{ℕ, _<_};
 ghost use Rattle.numbers.specs.Number.{signed};
+ghost use Rattle.words.specs.declared.Operand.{Operand};
+ghost use Rattle.words.specs.declared.Instruction.the-variants.{Ticc};
 ghost use Rattle.words.specs.Reader.{bits, bitSet, operandOf, format0Of, format2Of, format3Of, instructionOf, asJmpl};
 ghost use Rattle.words.specs.Conditions.{bitAt, holdsOf};
+ghost use Rattle.words.specs.Flow.{flowOf};
 
 // The second operand: a register, or a signed 13-bit constant, extended to 32 bits.
 pub enum Operand {
@@ -242,6 +245,109 @@ pub fn read_jmpl(word: u32) -> Instruction
         }
     }
     Instruction::Illegal
+}
+
+// ---- control alone
+
+// What an instruction does to control: all that the rules of places and records tell apart.
+pub enum Flow {
+    // an illegal word
+    Faults,
+    Continues,
+    // a Ticc that is always taken
+    Traps,
+    // disp30
+    Calls(u32),
+    // cond, annul bit, disp22
+    Branches(u32, bool, u32),
+    // rd
+    Jumps(u32),
+}
+
+fn flow0(word: u32) -> Flow
+    ensures { λ r. ⌜ r ≡ flowOf (format0Of word) ⌝ }
+{
+    let k = op2(word);
+    match k {
+        2 => Flow::Branches(cond(word), annul_bit(word), disp22(word)),
+        4 => Flow::Continues,
+        _ => Flow::Faults,
+    }
+}
+
+fn trap_flow(cond: u32) -> Flow
+    ensures { λ r. ⌜ ((rs1 : ℕ) (x : Operand) → r ≡ flowOf (Ticc cond rs1 x)) ⌝ }
+{
+    if cond == 8 {
+        return Flow::Traps;
+    }
+    Flow::Continues
+}
+
+fn flow2(op3: u32, cond: u32, rd: u32) -> Flow
+    ensures { λ r. ⌜ ((rs1 : ℕ) (x : Operand) → r ≡ flowOf (format2Of op3 cond rd rs1 x)) ⌝ }
+{
+    match op3 {
+        0 => Flow::Continues,
+        1 => Flow::Continues,
+        2 => Flow::Continues,
+        3 => Flow::Continues,
+        4 => Flow::Continues,
+        5 => Flow::Continues,
+        6 => Flow::Continues,
+        7 => Flow::Continues,
+        8 => Flow::Continues,
+        12 => Flow::Continues,
+        16 => Flow::Continues,
+        17 => Flow::Continues,
+        18 => Flow::Continues,
+        19 => Flow::Continues,
+        20 => Flow::Continues,
+        21 => Flow::Continues,
+        22 => Flow::Continues,
+        23 => Flow::Continues,
+        24 => Flow::Continues,
+        28 => Flow::Continues,
+        37 => Flow::Continues,
+        38 => Flow::Continues,
+        39 => Flow::Continues,
+        56 => Flow::Jumps(rd),
+        58 => trap_flow(cond),
+        _ => Flow::Faults,
+    }
+}
+
+fn flow3(op3: u32) -> Flow
+    ensures { λ r. ⌜ ((rd rs1 : ℕ) (x : Operand) → r ≡ flowOf (format3Of op3 rd rs1 x)) ⌝ }
+{
+    match op3 {
+        0 => Flow::Continues,
+        1 => Flow::Continues,
+        2 => Flow::Continues,
+        4 => Flow::Continues,
+        5 => Flow::Continues,
+        6 => Flow::Continues,
+        9 => Flow::Continues,
+        10 => Flow::Continues,
+        _ => Flow::Faults,
+    }
+}
+
+// What a word does to control. The translator asks no more of a word, and an operand that is not read costs nothing.
+pub fn read_flow(word: u32) -> Flow
+    ensures { λ r. ⌜ r ≡ flowOf (instructionOf word) ⌝ }
+{
+    let k = op(word);
+    if k < 2 {
+        if k == 0 {
+            return flow0(word);
+        }
+        return Flow::Calls(disp30(word));
+    }
+    if k == 2 {
+        return flow2(op3(word), cond(word), rd(word));
+    }
+    flow3(op3(word))
 }
 
 // ---- conditions

@@ -1,10 +1,15 @@
+use mathlib.Core.Path.{_∙_}
+use Prim.Native.Nat.{_/_, _%_}
 use Rattle.numbers.specs.Number.{putNumber}
 use native.Mathlib.Omega.{arith}
-use mathlib.Core.Path.{refl}
+use Rattle.numbers.proofs.Number.{its-bytes}
 use lib.ListN.{length-set}
 use borrow.Author.Needs.{needs}
 use Rattle.numbers.proofs.write_number.Statement.{statement}
 use Rattle.numbers.proofs.write_number.Tie as tie
+
+swapped-requires : tie.Need-swapped-requires
+swapped-requires c κs = search needs
 
 cast-bytes : tie.Need-cast-bytes
 cast-bytes c = search needs
@@ -44,12 +49,15 @@ same-length c = search needs
 
 returns : tie.Need-returns
 unfolding putNumber
-returns c = refl
+returns c = let v = c .before .before .args .v in
+    let s = its-bytes (v / 16777216 % 256) (v / 65536 % 256) (v / 256 % 256) (v % 256) (omega arith) (omega arith) (omega arith) (omega arith) _ (c .swapped .ensures ∙ omega arith) in
+    rw (s .0, s .1, s .2, s .3)
 
 pub write-number-spec : {M : Type 1} → statement M
 write-number-spec =
     tie.close
     (tie.spec
+    swapped-requires
     cast-bytes
     slice-write-bytes
     cast-bytes-2

@@ -1,7 +1,7 @@
 use Rattle.model.specs.Translation.{placeRoom}
 use Rattle.model.specs.Cases.{given}
 use Rattle.places.proofs.Chains.{index-none}
-use Rattle.places.proofs.Worklist.{within-places, indexed-places}
+use Rattle.places.proofs.Walking.{within-places, indexed-places}
 use Rattle.translator.proofs.Checking.{good-count, tr-length, tr-base, tr-count, tr-entry, tr-walk}
 use Rattle.translator.proofs.Handed.{attempted-by, ends-places, refused-as, ends-forbidden, ends-full}
 use Rattle.translator.specs.Handing.{placesCounted, recordsCounted}

@@ -1,6 +1,7 @@
 use Rattle.places.proofs.Rows.{length-places}
 use Rattle.places.specs.Table.{placesIn}
-use Rattle.translator.proofs.Handed.{index-laid, finish-short, finish-whole}
+use Rattle.places.proofs.Chains.{index-same}
+use Rattle.translator.proofs.Handed.{finish-short, finish-whole}
 use Rattle.translator.proofs.Laying.{needed-le}
 use native.Mathlib.Omega.{arith}
 use mathlib.Core.Path.{refl}
@@ -9,23 +10,23 @@ use Rattle.translator.proofs.finish.Statement.{statement}
 use Rattle.translator.proofs.finish.Tie as tie
 
 lay-out-requires : tie.Need-lay-out-requires
-lay-out-requires c κs = search needs
+lay-out-requires c κs = let s = c .before .before .before .before in (s .pre .0, s .pre .1, s .pre .2 .shows)
 
 cast-t14 : tie.Need-cast-t14
 cast-t14 c = let s = c .before .before .before .before .before .before .before .before in
     let ps = placesIn (s .args .places .now) (s .args .count) in
-    omega (arith, c .before .before .before .lay-out .ensures .all, needed-le (s .args .image .now) (s .args .base) ps, length-places (s .args .places .now) (s .args .count), s .pre .1)
+    omega (arith, c .before .before .before .lay-out .ensures .0 .all, needed-le (s .args .image .now) (s .args .base) ps, length-places (s .args .places .now) (s .args .count), s .pre .1)
 
 same-length : tie.Need-same-length
 same-length c = search needs
 
 returns : tie.Need-returns
-returns c = λ es position. finish-short _ _ _ _ _ _ _ _ (omega arith) refl _ _ _ (c .before .before .before .lay-out .ensures) (c .if1 .taken)
+returns c = λ es position. finish-short _ _ _ _ _ _ _ _ (omega arith) refl _ _ _ (c .before .before .before .lay-out .ensures .0) (c .if1 .taken)
 
 put-groups-requires : tie.Need-put-groups-requires
 put-groups-requires c κs = let s = c .before .before .before .before .before .before .before .before .before .before in
     let d = c .before .before .before .before .before .lay-out .ensures in
-    (omega arith, s .pre .1, rw (d .kept) (d .all), omega arith, index-laid _ _ _ _ _ _ _ _ d (s .pre .2))
+    (omega arith, s .pre .1, rw (d .0 .kept) (d .0 .all), omega arith, index-same _ _ _ _ _ (d .1) (s .pre .2))
 
 cast-t20 : tie.Need-cast-t20
 cast-t20 c = search needs
@@ -33,7 +34,7 @@ cast-t20 c = search needs
 cast-t21 : tie.Need-cast-t21
 cast-t21 c = let s = c .before .before .before .before .before .before .before .before .before .before .before .before .before in
     let ps = placesIn (s .args .places .now) (s .args .count) in
-    omega (arith, c .before .before .before .before .before .before .before .before .lay-out .ensures .all, needed-le (s .args .image .now) (s .args .base) ps, length-places (s .args .places .now) (s .args .count), s .pre .1)
+    omega (arith, c .before .before .before .before .before .before .before .before .lay-out .ensures .0 .all, needed-le (s .args .image .now) (s .args .base) ps, length-places (s .args .places .now) (s .args .count), s .pre .1)
 
 same-length-2 : tie.Need-same-length-2
 same-length-2 c = search needs
@@ -42,7 +43,7 @@ same-length-3 : tie.Need-same-length-3
 same-length-3 c = search needs
 
 returns-2 : tie.Need-returns-2
-returns-2 c = λ es position. finish-whole _ _ _ _ _ _ _ _ (omega arith) (omega arith) _ _ _ (c .before .before .before .before .before .before .before .before .lay-out .ensures) (c .before .before .before .before .before .if1 .left) (omega arith) (c .before .before .put-groups .ensures)
+returns-2 c = λ es position. finish-whole _ _ _ _ _ _ _ _ (omega arith) (omega arith) _ _ _ (c .before .before .before .before .before .before .before .before .lay-out .ensures .0) (c .before .before .before .before .before .if1 .left) (omega arith) (c .before .before .put-groups .ensures)
 
 pub finish-spec : {M : Type 1} → statement M
 finish-spec =

@@ -3,13 +3,6 @@ use Rattle.words.proofs.Jmpl.{jmpl-read, no-jmpl-op, no-jmpl-op3}
 use borrow.Author.Needs.{needs}
 use Rattle.words.proofs.read_jmpl.Statement.{statement}
 use Rattle.words.proofs.read_jmpl.Tie as tie
-use Rattle.words.proofs.read_jmpl.Reads as reads
-use Rattle.words.proofs.read_jmpl.Lts as lts
-use Rattle.words.proofs.op.Reads as op-reads
-use Rattle.words.proofs.op3.Reads as op3-reads
-use Rattle.words.proofs.rd.Reads as rd-reads
-use Rattle.words.proofs.rs1.Reads as rs1-reads
-use Rattle.words.proofs.second_operand.Reads as second-operand-reads
 
 op-requires : tie.Need-op-requires
 op-requires c κs = search needs

@@ -1,4 +1,3 @@
-use Rattle.places.specs.Index.{hash}
 use Rattle.places.proofs.Chains.{hash-lt}
 use native.Mathlib.Omega.{arith}
 use borrow.Author.Needs.{needs}
@@ -9,10 +8,10 @@ hash-requires : tie.Need-hash-requires
 hash-requires c κs = search needs
 
 mul-links : tie.Need-mul-links
-mul-links c = omega (arith, hash-lt (c .before .args .x))
+mul-links c = omega (arith, c .hash .ensures, hash-lt (c .before .args .p) (c .before .args .n))
 
 element-copy-out-links : tie.Need-element-copy-out-links
-element-copy-out-links c = omega (arith, hash-lt (c .before .args .x))
+element-copy-out-links c = omega (arith, c .hash .ensures, hash-lt (c .before .args .p) (c .before .args .n))
 
 mul-links-2 : tie.Need-mul-links-2
 mul-links-2 c = search needs
@@ -27,10 +26,10 @@ cast-heads : tie.Need-cast-heads
 cast-heads c = search needs
 
 mul-heads : tie.Need-mul-heads
-mul-heads c = omega (arith, hash-lt (c .before .before .args .x))
+mul-heads c = omega (arith, c .before .hash .ensures, hash-lt (c .before .before .args .p) (c .before .before .args .n))
 
 element-write-heads : tie.Need-element-write-heads
-element-write-heads c = omega (arith, hash-lt (c .before .before .args .x))
+element-write-heads c = omega (arith, c .before .hash .ensures, hash-lt (c .before .before .args .p) (c .before .before .args .n))
 
 returns : tie.Need-returns
 returns c = (rw (c .before .hash .ensures), rw (c .before .hash .ensures))

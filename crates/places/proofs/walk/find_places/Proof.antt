@@ -1,6 +1,6 @@
 use Rattle.model.specs.Cases.{start, given}
 use Rattle.model.specs.Walk.{walk}
-use Rattle.places.proofs.Worklist.{within-places, indexed-places, known-by, ended-forbidden, ended-full, from-entries, onward-places, onward-forbidden, onward-full}
+use Rattle.places.proofs.Walking.{within-places, indexed-places, known-by, ended-forbidden, ended-full, from-entries, grown-places, grown-forbidden, grown-full}
 use native.Mathlib.Omega.{arith}
 use mathlib.Core.Path.{sym, _∙_}
 use borrow.Author.Needs.{needs}
@@ -28,19 +28,19 @@ same-length : tie.Need-same-length
 same-length c = search needs
 
 returns : tie.Need-returns
-returns c = known-by (sym (onward-places _ _ (c .before .before .before .before .before .before .before .w .given .1)) ∙ from-entries _ _ _ _ _ _ (c .before .before .before .before .before .before .before .before .before .before .before .start .ensures .reads)) (c .before .before .walk .ensures)
+returns c = known-by (sym (grown-places _ _ (c .before .before .before .before .before .before .before .w .given .1)) ∙ from-entries _ _ _ _ _ _ (c .before .before .before .before .before .before .before .before .before .before .before .start .ensures .reads)) (c .before .before .walk .ensures)
 
 same-length-2 : tie.Need-same-length-2
 same-length-2 c = search needs
 
 returns-2 : tie.Need-returns-2
-returns-2 c = ended-forbidden _ _ _ (sym (onward-forbidden _ _ (c .before .w2 .given .1)) ∙ from-entries _ _ _ _ _ _ (c .before .before .before .before .before .start .ensures .reads))
+returns-2 c = ended-forbidden _ _ _ (sym (grown-forbidden _ _ (c .before .w2 .given .1)) ∙ from-entries _ _ _ _ _ _ (c .before .before .before .before .before .start .ensures .reads))
 
 same-length-3 : tie.Need-same-length-3
 same-length-3 c = search needs
 
 returns-3 : tie.Need-returns-3
-returns-3 c = ended-full _ _ _ (sym (onward-full _ _ (c .before .w3 .given .1)) ∙ from-entries _ _ _ _ _ _ (c .before .before .before .before .before .start .ensures .reads))
+returns-3 c = ended-full _ _ _ (sym (grown-full _ _ (c .before .w3 .given .1)) ∙ from-entries _ _ _ _ _ _ (c .before .before .before .before .before .start .ensures .reads))
 
 pub find-places-spec : {M : Type 1} → statement M
 find-places-spec =

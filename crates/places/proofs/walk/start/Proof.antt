@@ -1,8 +1,7 @@
 use Rattle.numbers.specs.Number.{numbersOf}
-use Rattle.model.specs.Cases.{given}
 use Rattle.model.specs.Walk.{grow}
-use Rattle.model.specs.Places.{plain, plains}
-use Rattle.places.proofs.Worklist.{within-places, indexed-places, ended-forbidden, ended-full, still, start-turn, start-end, start-none, onward-places, onward-forbidden, onward-full}
+use Rattle.model.specs.Places.{plains}
+use Rattle.places.proofs.Walking.{within-places, indexed-places, ended-forbidden, ended-full, still, start-turn, start-end, start-none, grown-places, grown-forbidden, grown-full}
 use Rattle.places.specs.Table.{placesIn}
 use Rattle.places.specs.Index.{Indexed}
 use borrow.Author.Needs.{needs}
@@ -13,6 +12,7 @@ use mathlib.Core.Path.{_≡_, refl, sym, _∙_}
 use Prim.Native.Nat.{_-_, _≤_}
 use Rattle.places.proofs.walk.start.Statement.{statement}
 use Rattle.places.proofs.walk.start.Tie as tie
+use Rattle.places.proofs.walk.start.Reads as reads
 
 abbrev Inv-loop : tie.InvT-loop
 Inv-loop entries k places₀ heads₀ links₀ room n₀ j₀ places heads links n j =
@@ -32,11 +32,8 @@ mul-read-number c = search needs
 read-number-requires : tie.Need-read-number-requires Inv-loop μ-loop
 read-number-requires c κs = omega arith
 
-plain-requires : tie.Need-plain-requires Inv-loop μ-loop
-plain-requires c κs = search needs
-
-add-place-requires : tie.Need-add-place-requires Inv-loop μ-loop
-add-place-requires c κs = let i = c .before .before .before .before .before .before .loop .inv in (omega arith, omega arith, omega arith, i .3)
+add-plain-requires : tie.Need-add-plain-requires Inv-loop μ-loop
+add-plain-requires c κs = let i = c .before .before .before .before .before .loop .inv in (omega arith, omega arith, omega arith, i .3)
 
 enum-known-w : tie.Need-enum-known-w Inv-loop μ-loop
 enum-known-w c = search needs
@@ -48,8 +45,7 @@ same-length : tie.Need-same-length Inv-loop μ-loop
 same-length c = search needs
 
 returns : tie.Need-returns Inv-loop μ-loop
-returns c = let b = c .before .before .before .before .before .before .before .before .before .before .before .before .loop in
-    ended-forbidden _ _ _ (sym (onward-forbidden _ _ (c .before .w2 .given .1)) ∙ start-turn _ _ _ _ _ _ _ _ _ _ (c .before .before .before .before .before .before .before .before .before .before .before .loop-test .taken) (c .before .before .before .before .before .before .before .before .before .before .read-number .ensures) (c .before .before .before .before .before .before .plain .ensures) (c .before .before .before .before .before .add-place .ensures .reads) ∙ b .inv .2)
+returns c = ended-forbidden _ _ _ (sym (grown-forbidden _ _ (c .before .w2 .given .1)) ∙ start-turn _ _ _ _ _ _ _ _ _ (c .before .before .before .before .before .before .before .before .before .before .loop-test .taken) (c .before .before .before .before .before .before .before .before .before .read-number .ensures) (c .before .before .before .before .before .add-plain .ensures .reads) ∙ c .before .before .before .before .before .before .before .before .before .before .before .loop .inv .2)
 
 enum-known-w-3 : tie.Need-enum-known-w-3 Inv-loop μ-loop
 enum-known-w-3 c = search needs
@@ -58,8 +54,7 @@ same-length-2 : tie.Need-same-length-2 Inv-loop μ-loop
 same-length-2 c = search needs
 
 returns-2 : tie.Need-returns-2 Inv-loop μ-loop
-returns-2 c = let b = c .before .before .before .before .before .before .before .before .before .before .before .before .loop in
-    ended-full _ _ _ (sym (onward-full _ _ (c .before .w3 .given .1)) ∙ start-turn _ _ _ _ _ _ _ _ _ _ (c .before .before .before .before .before .before .before .before .before .before .before .loop-test .taken) (c .before .before .before .before .before .before .before .before .before .before .read-number .ensures) (c .before .before .before .before .before .before .plain .ensures) (c .before .before .before .before .before .add-place .ensures .reads) ∙ b .inv .2)
+returns-2 c = ended-full _ _ _ (sym (grown-full _ _ (c .before .w3 .given .1)) ∙ start-turn _ _ _ _ _ _ _ _ _ (c .before .before .before .before .before .before .before .before .before .before .loop-test .taken) (c .before .before .before .before .before .before .before .before .before .read-number .ensures) (c .before .before .before .before .before .add-plain .ensures .reads) ∙ c .before .before .before .before .before .before .before .before .before .before .before .loop .inv .2)
 
 add-j : tie.Need-add-j Inv-loop μ-loop
 add-j c = omega arith
@@ -68,12 +63,11 @@ loop-less : tie.Need-loop-less Inv-loop μ-loop
 loop-less c = omega arith
 
 loop-again : tie.Need-loop-again Inv-loop μ-loop
-loop-again c = let b = c .before .before .before .before .before .before .before .before .before .before .before .before .loop in
-    let e = c .before .w .given .1 in
-    let g = c .before .before .before .before .before .add-place .ensures in (
+loop-again c = let e = c .before .w .given .1 in
+    let g = c .before .before .before .before .before .add-plain .ensures in (
       within-places e (g .fits),
       omega arith,
-      sym (onward-places _ _ e) ∙ start-turn _ _ _ _ _ _ _ _ _ _ (c .before .before .before .before .before .before .before .before .before .before .before .loop-test .taken) (c .before .before .before .before .before .before .before .before .before .before .read-number .ensures) (c .before .before .before .before .before .before .plain .ensures) (g .reads) ∙ b .inv .2,
+      sym (grown-places _ _ e) ∙ start-turn _ _ _ _ _ _ _ _ _ (c .before .before .before .before .before .before .before .before .before .before .loop-test .taken) (c .before .before .before .before .before .before .before .before .before .read-number .ensures) (g .reads) ∙ c .before .before .before .before .before .before .before .before .before .before .before .loop .inv .2,
       indexed-places e (g .index),
     )
 
@@ -81,7 +75,7 @@ same-length-3 : tie.Need-same-length-3 Inv-loop μ-loop
 same-length-3 c = search needs
 
 returns-3 : tie.Need-returns-3 Inv-loop μ-loop
-returns-3 c = let b = c .before .loop in still (start-end _ _ _ _ _ _ (c .loop-test .left) ∙ b .inv .2) (b .inv .0) (b .inv .3)
+returns-3 c = still (start-end _ _ _ _ _ _ (c .loop-test .left) ∙ c .before .loop .inv .2) (c .before .loop .inv .0) (c .before .loop .inv .3)
 
 pub start-spec : {M : Type 1} → statement M
 start-spec =
@@ -92,8 +86,7 @@ start-spec =
     loop-holds
     mul-read-number
     read-number-requires
-    plain-requires
-    add-place-requires
+    add-plain-requires
     enum-known-w
     enum-known-w-2
     same-length

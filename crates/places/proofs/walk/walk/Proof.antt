@@ -1,6 +1,6 @@
 use Rattle.model.specs.Cases.{given}
 use Rattle.model.specs.Walk.{handle, walk}
-use Rattle.places.proofs.Worklist.{within-places, indexed-places, ended-forbidden, ended-full, still, onward-places, onward-forbidden, onward-full, walk-on, walk-end}
+use Rattle.places.proofs.Walking.{within-places, indexed-places, ended-forbidden, ended-full, still, grown-places, grown-forbidden, grown-full, walk-on, walk-end}
 use Rattle.places.specs.Table.{placesIn}
 use Rattle.places.specs.Index.{Indexed}
 use borrow.Author.Needs.{needs}
@@ -38,7 +38,7 @@ same-length c = search needs
 
 returns : tie.Need-returns Inv-loop μ-loop
 returns c = let b = c .before .before .before .before .before .before .before .before .before .before .loop in
-    ended-forbidden _ _ _ (sym (onward-forbidden _ _ (c .before .w2 .given .1)) ∙ walk-on _ _ _ _ _ _ _ _ (c .before .before .before .before .before .before .before .before .before .loop-test .taken) (b .inv .0) (c .before .before .before .before .before .handle .ensures .reads) ∙ b .inv .3)
+    ended-forbidden _ _ _ (sym (grown-forbidden _ _ (c .before .w2 .given .1)) ∙ walk-on _ _ _ _ _ _ _ _ (c .before .before .before .before .before .before .before .before .before .loop-test .taken) (b .inv .0) (c .before .before .before .before .before .handle .ensures .reads) ∙ b .inv .3)
 
 enum-known-w-3 : tie.Need-enum-known-w-3 Inv-loop μ-loop
 enum-known-w-3 c = search needs
@@ -48,7 +48,7 @@ same-length-2 c = search needs
 
 returns-2 : tie.Need-returns-2 Inv-loop μ-loop
 returns-2 c = let b = c .before .before .before .before .before .before .before .before .before .before .loop in
-    ended-full _ _ _ (sym (onward-full _ _ (c .before .w3 .given .1)) ∙ walk-on _ _ _ _ _ _ _ _ (c .before .before .before .before .before .before .before .before .before .loop-test .taken) (b .inv .0) (c .before .before .before .before .before .handle .ensures .reads) ∙ b .inv .3)
+    ended-full _ _ _ (sym (grown-full _ _ (c .before .w3 .given .1)) ∙ walk-on _ _ _ _ _ _ _ _ (c .before .before .before .before .before .before .before .before .before .loop-test .taken) (b .inv .0) (c .before .before .before .before .before .handle .ensures .reads) ∙ b .inv .3)
 
 add-i : tie.Need-add-i Inv-loop μ-loop
 add-i c = omega arith
@@ -63,7 +63,7 @@ loop-again c = let b = c .before .before .before .before .before .before .before
       within-places e (g .fits),
       omega arith,
       omega arith,
-      sym (onward-places _ _ e) ∙ walk-on _ _ _ _ _ _ _ _ (c .before .before .before .before .before .before .before .before .before .loop-test .taken) (b .inv .0) (g .reads) ∙ b .inv .3,
+      sym (grown-places _ _ e) ∙ walk-on _ _ _ _ _ _ _ _ (c .before .before .before .before .before .before .before .before .before .loop-test .taken) (b .inv .0) (g .reads) ∙ b .inv .3,
       indexed-places e (g .index),
     )
 

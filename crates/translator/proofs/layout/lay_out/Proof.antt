@@ -1,47 +1,52 @@
+use Rattle.numbers.proofs.Number.{length-put}
 use Rattle.numbers.specs.Number.{upTo, numbersOf}
-use Rattle.model.specs.Records.{tableNumbers, rowsFrom}
-use Rattle.places.proofs.Rows.{length-putRow}
-use Rattle.places.specs.Table.{placeIn, placesIn}
-use Rattle.translator.proofs.Laying.{past-le, lay-turn, lay-end}
-use Rattle.translator.specs.Layout.{needed}
-use Rattle.translator.specs.Groups.{groupFrom}
-use borrow.Author.Needs.{needs}
-use lib.ListN.{length, drop}
+use Rattle.places.specs.Table.{SameRow, placesIn}
+use Rattle.translator.proofs.Grouping.{row-size}
+use Rattle.translator.proofs.Laying.{Laying, lay-turn, lay-end, row-kept, row-trans, size-bound}
+use lib.ListN.{length}
+use native.Mathlib.Nat.{zero-add}
 use native.Mathlib.Omega.{arith}
-use mathlib.Core.List.{_++_}
 use mathlib.Core.Path.{_≡_, refl}
-use Prim.Native.Nat.{ℕ, _+_, _*_, _-_, _≤_}
+use Prim.Native.Nat.{ℕ, _*_, _-_, _≤_}
+use borrow.Author.Needs.{needs}
 use Rattle.translator.proofs.layout.lay_out.Statement.{statement}
 use Rattle.translator.proofs.layout.lay_out.Tie as tie
 
 abbrev Inv-loop : tie.InvT-loop
 Inv-loop image base places₀ count n₀ i₀ places n i =
-    (i ≤ count) × (length places ≡ length places₀) × ((j : ℕ) → placeIn places j ≡ placeIn places₀ j) × (n ≤ 2 * i)
-    × (n + needed image base (drop i (placesIn places₀ count)) ≡ needed image base (placesIn places₀ count))
-    × (numbersOf places (4 * i) ++ tableNumbers (rowsFrom image base n (drop i (placesIn places₀ count)))
-    ≡ tableNumbers (rowsFrom image base 0 (placesIn places₀ count)))
+    (i ≤ count) × (length places ≡ length places₀) × ((j : ℕ) → SameRow places places₀ j) × (n ≤ 2 * i)
+    × Laying image base places (placesIn places₀ count) i n
 
 abbrev μ-loop : tie.MeasureT-loop
 μ-loop image base places₀ count n₀ i₀ places n i = count - i
 
 loop-holds : tie.Need-loop-holds Inv-loop μ-loop
 unfolding numbersOf upTo
-loop-holds c = (omega arith, refl, λ j. refl, omega arith, omega arith, refl)
+loop-holds c = (omega arith, refl, λ j. (refl, refl, refl), omega arith, (zero-add _, refl))
 
-read-place-requires : tie.Need-read-place-requires Inv-loop μ-loop
-read-place-requires c κs = omega arith
+address-requires : tie.Need-address-requires Inv-loop μ-loop
+address-requires c κs = omega arith
 
-cast-write-row : tie.Need-cast-write-row Inv-loop μ-loop
-cast-write-row c = omega arith
+is-held-requires : tie.Need-is-held-requires Inv-loop μ-loop
+is-held-requires c κs = omega arith
 
-write-row-requires : tie.Need-write-row-requires Inv-loop μ-loop
-write-row-requires c κs = omega arith
+group-size-requires : tie.Need-group-size-requires Inv-loop μ-loop
+group-size-requires c κs = search needs
 
-group-of-requires : tie.Need-group-of-requires Inv-loop μ-loop
-group-of-requires c κs = search needs
+mul-write-number : tie.Need-mul-write-number Inv-loop μ-loop
+mul-write-number c = omega arith
 
-count-past-requires : tie.Need-count-past-requires Inv-loop μ-loop
-count-past-requires c κs = omega arith
+add-write-number : tie.Need-add-write-number Inv-loop μ-loop
+add-write-number c = omega arith
+
+cast-write-number : tie.Need-cast-write-number Inv-loop μ-loop
+cast-write-number c = omega arith
+
+write-number-requires : tie.Need-write-number-requires Inv-loop μ-loop
+write-number-requires c κs = omega arith
+
+add-n : tie.Need-add-n Inv-loop μ-loop
+add-n c = omega (arith, size-bound _ (c .before .before .before .before .group-size .ensures 0))
 
 add-i : tie.Need-add-i Inv-loop μ-loop
 add-i c = search needs
@@ -50,18 +55,16 @@ loop-less : tie.Need-loop-less Inv-loop μ-loop
 loop-less c = search needs
 
 loop-again : tie.Need-loop-again Inv-loop μ-loop
-loop-again c = let b = c .before .before .before .before .before .before .before .before .before .loop in
-    let w = c .before .before .before .before .write-row .ensures in
-    let turn = lay-turn _ _ _ _ _ _ _ (b .inv .2) (c .before .before .before .before .before .before .before .before .loop-test .taken) (c .before .before .before .before .before .before .read-place .ensures) (c .before .group-of .ensures) (w .1) (omega arith) (omega arith) (b .inv .4) (b .inv .5) in
-    let g = groupFrom (c .before .group-of .result) in
-    rw (w .0, c .count-past .ensures)
-    (omega arith, simp length-putRow (b .inv .1), turn .0, omega (arith, past-le g (b .n)), turn .1, turn .2)
+loop-again c = let turn = lay-turn _ _ _ _ _ _ _ (c .before .before .before .before .before .before .before .before .before .before .loop .inv .2) (c .before .before .before .before .before .before .before .before .before .loop-test .taken) (row-size _ _ _ _ (c .before .before .before .before .before .before .before .address .ensures) (c .before .before .before .before .before .is-held .ensures) (c .before .before .before .before .group-size .ensures)) (c .before .before .before .before .before .before .before .before .before .before .before .before .before .pre .2 _ (c .before .before .before .before .before .before .before .before .before .loop-test .taken)) (omega arith) (omega arith) (c .before .before .before .before .before .before .before .before .before .before .loop .inv .4) in
+    let k = size-bound _ (c .before .before .before .before .group-size .ensures 0) in
+    rw (c .before .before .write-number .ensures)
+    (omega arith, simp length-put (c .before .before .before .before .before .before .before .before .before .before .loop .inv .1), λ j. row-trans _ _ _ j (row-kept _ _ _ j) (c .before .before .before .before .before .before .before .before .before .before .loop .inv .2 j), omega (arith, k), turn)
 
 same-length : tie.Need-same-length Inv-loop μ-loop
 same-length c = search needs
 
 returns : tie.Need-returns Inv-loop μ-loop
-returns c = let b = c .before .loop in lay-end _ _ _ _ _ _ _ (b .inv .2) (b .inv .0) (c .loop-test .left) (b .inv .4) (b .inv .5)
+returns c = (lay-end _ _ _ _ _ _ _ (c .before .loop .inv .2) (c .before .loop .inv .0) (c .loop-test .left) (c .before .loop .inv .4), λ i h. c .before .loop .inv .2 i)
 
 pub lay-out-spec : {M : Type 1} → statement M
 lay-out-spec =
@@ -70,11 +73,14 @@ lay-out-spec =
     Inv-loop
     μ-loop
     loop-holds
-    read-place-requires
-    cast-write-row
-    write-row-requires
-    group-of-requires
-    count-past-requires
+    address-requires
+    is-held-requires
+    group-size-requires
+    mul-write-number
+    add-write-number
+    cast-write-number
+    write-number-requires
+    add-n
     add-i
     loop-less
     loop-again

@@ -1,4 +1,3 @@
-use Rattle.numbers.specs.Choice.{find}
 use Rattle.translator.specs.Layout.{firstIn}
 use borrow.Author.Tests.{lt-ltb, le-ltb}
 use borrow.Author.Needs.{needs}

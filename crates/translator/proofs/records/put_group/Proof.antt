@@ -1,63 +1,77 @@
-use Rattle.model.specs.Cases.{given}
-use Rattle.translator.proofs.Putting.{past-one, past-two, put-one, put-two}
-use native.Mathlib.Omega.{arith}
+use Rattle.model.specs.Records.{numbered, recordNumbers}
+use Rattle.translator.proofs.Grouping.{row-outside, row-held, row-pair}
+use Rattle.translator.proofs.Putting.{puts-as, room-as, room-one}
+use mathlib.Core.Path.{refl}
 use borrow.Author.Needs.{needs}
 use Rattle.translator.proofs.records.put_group.Statement.{statement}
 use Rattle.translator.proofs.records.put_group.Tie as tie
 
-enum-known-g : tie.Need-enum-known-g
-enum-known-g c = search needs
+address-requires : tie.Need-address-requires
+address-requires c κs = search needs
 
-numbers-of-requires : tie.Need-numbers-of-requires
-numbers-of-requires c κs = search needs
+fetch-requires : tie.Need-fetch-requires
+fetch-requires c κs = search needs
 
-put-record-requires : tie.Need-put-record-requires
-put-record-requires c κs = omega (arith, past-one (c .before .before .before .before .before .before .before .args .at) (c .before .before .before .g .given .1))
+enum-known-f : tie.Need-enum-known-f
+enum-known-f c = search needs
 
-enum-known-g-2 : tie.Need-enum-known-g-2
-enum-known-g-2 c = search needs
+read-flow-requires : tie.Need-read-flow-requires
+read-flow-requires c κs = search needs
 
-numbers-of-requires-2 : tie.Need-numbers-of-requires-2
-numbers-of-requires-2 c κs = search needs
+is-held-requires : tie.Need-is-held-requires
+is-held-requires c κs = search needs
 
-put-record-requires-2 : tie.Need-put-record-requires-2
-put-record-requires-2 c κs = omega (arith, past-two (c .before .before .before .before .before .before .before .args .at) (c .before .before .before .g2 .given .1))
-
-add-put-record : tie.Need-add-put-record
-add-put-record c = omega (arith, past-two (c .before .before .before .before .before .before .before .before .before .before .before .args .at) (c .before .before .before .before .before .before .before .g2 .given .1))
-
-numbers-of-requires-3 : tie.Need-numbers-of-requires-3
-numbers-of-requires-3 c κs = search needs
-
-put-record-requires-3 : tie.Need-put-record-requires-3
-put-record-requires-3 c κs = omega (arith, past-two (c .before .before .before .before .before .before .before .before .before .before .before .before .args .at) (c .before .before .before .before .before .before .before .before .g2 .given .1))
+put-held-requires : tie.Need-put-held-requires
+put-held-requires c κs = room-as _ (row-held _ _ _ _ (c .before .before .before .before .before .before .before .before .address .ensures) (c .before .before .before .before .before .before .before .fetch .ensures) (c .before .before .before .before .before .f .given .1) (c .before .before .before .read-flow .ensures) (c .before .before .is-held .ensures) (c .before .if1 .taken)) (c .before .before .before .before .before .before .before .before .before .before .before .before .pre .4)
 
 same-length : tie.Need-same-length
 same-length c = search needs
 
 returns : tie.Need-returns
-returns c = put-one _ _ _ _ (c .before .before .before .before .before .before .g .given .1) (c .before .before .before .numbers-of .ensures) (c .before .before .put-record .ensures)
+returns c = puts-as (row-held _ _ _ _ (c .before .before .before .before .before .before .before .before .before .before .before .address .ensures) (c .before .before .before .before .before .before .before .before .before .before .fetch .ensures) (c .before .before .before .before .before .before .before .before .f .given .1) (c .before .before .before .before .before .before .read-flow .ensures) (c .before .before .before .before .before .is-held .ensures) (c .before .before .before .before .if1 .taken)) (c .before .before .put-held .ensures _)
+
+next-requires : tie.Need-next-requires
+next-requires c κs = search needs
+
+put-word-requires : tie.Need-put-word-requires
+put-word-requires c κs = (c .before .before .before .before .before .before .before .before .before .before .before .before .before .pre .0, c .before .before .before .before .before .before .before .before .before .before .before .before .before .pre .1, c .before .before .before .before .before .before .before .before .before .before .before .before .before .pre .2, room-as _ (row-pair _ _ _ _ (c .before .before .before .before .before .before .before .before .before .address .ensures) (c .before .before .before .before .before .before .before .before .fetch .ensures) (c .before .before .before .before .before .before .f .given .1) (c .before .before .before .before .read-flow .ensures) (c .before .before .before .is-held .ensures) (c .before .next .ensures) (c .before .before .if1 .left)) (c .before .before .before .before .before .before .before .before .before .before .before .before .before .pre .4), c .before .before .before .before .before .before .before .before .before .before .before .before .before .pre .5)
+
+enum-told : tie.Need-enum-told
+enum-told c = search needs
+
+put-one-requires : tie.Need-put-one-requires
+put-one-requires c κs = room-one _ (row-outside _ _ _ _ (c .before .before .before .before .address .ensures) (c .before .before .before .fetch .ensures) (c .before .enum-told .given .1)) (c .before .before .before .before .before .before .before .before .pre .4)
 
 same-length-2 : tie.Need-same-length-2
 same-length-2 c = search needs
 
 returns-2 : tie.Need-returns-2
-returns-2 c = put-two _ _ _ _ _ (c .before .before .before .before .before .before .before .before .before .before .before .g2 .given .1) (c .before .before .before .before .before .before .before .before .numbers-of2 .ensures) (c .before .before .before .numbers-of3 .ensures) (c .before .before .before .before .before .before .before .put-record2 .ensures) (c .before .before .put-record3 .ensures)
+returns-2 c = puts-as (row-pair _ _ _ _ (c .before .before .before .before .before .before .before .before .before .before .before .before .address .ensures) (c .before .before .before .before .before .before .before .before .before .before .before .fetch .ensures) (c .before .before .before .before .before .before .before .before .before .f .given .1) (c .before .before .before .before .before .before .before .read-flow .ensures) (c .before .before .before .before .before .before .is-held .ensures) (c .before .before .before .before .next .ensures) (c .before .before .before .before .before .if1 .left)) (c .before .before .put-word .ensures)
+
+same-length-3 : tie.Need-same-length-3
+same-length-3 c = search needs
+
+returns-3 : tie.Need-returns-3
+unfolding numbered recordNumbers
+returns-3 c = puts-as (row-outside _ _ _ _ (c .before .before .before .before .before .before .before .address .ensures) (c .before .before .before .before .before .before .fetch .ensures) (c .before .before .before .before .enum-told .given .1)) (c .before .before .put-one .ensures _ _ refl)
 
 pub put-group-spec : {M : Type 1} → statement M
 put-group-spec =
     tie.close
     (tie.spec
-    enum-known-g
-    numbers-of-requires
-    put-record-requires
-    enum-known-g-2
-    numbers-of-requires-2
-    put-record-requires-2
-    add-put-record
-    numbers-of-requires-3
-    put-record-requires-3
+    address-requires
+    fetch-requires
+    enum-known-f
+    read-flow-requires
+    is-held-requires
+    put-held-requires
     same-length
     returns
+    next-requires
+    put-word-requires
+    enum-told
+    put-one-requires
     same-length-2
-    returns-2)
+    returns-2
+    same-length-3
+    returns-3)

@@ -1,17 +1,17 @@
-use native.Mathlib.Nat.{zero-add}
 use Rattle.numbers.specs.Number.{upTo, numbersOf}
-use Rattle.model.specs.Records.{recordsNumbers, recordsFrom}
+use Rattle.model.specs.Records.{recordsFrom, recordsNumbers}
 use Rattle.places.proofs.Rows.{length-places}
 use Rattle.places.specs.Table.{placesIn}
-use Rattle.translator.proofs.Laying.{next-place, needed-le, needed-turn}
+use Rattle.translator.proofs.Laying.{needed-le, needed-turn, next-place}
 use Rattle.translator.proofs.Putting.{put-turn, put-end}
 use Rattle.translator.specs.Layout.{needed, firstIn}
-use borrow.Author.Needs.{needs}
 use lib.ListN.{length, drop}
+use native.Mathlib.Nat.{zero-add}
 use native.Mathlib.Omega.{arith}
 use mathlib.Core.List.{_++_}
 use mathlib.Core.Path.{_≡_, refl, sym, _∙_}
 use Prim.Native.Nat.{_+_, _*_, _-_, _≤_}
+use borrow.Author.Needs.{needs}
 use Rattle.translator.proofs.records.put_groups.Statement.{statement}
 use Rattle.translator.proofs.records.put_groups.Tie as tie
 
@@ -26,27 +26,13 @@ abbrev μ-loop : tie.MeasureT-loop
 
 loop-holds : tie.Need-loop-holds Inv-loop μ-loop
 unfolding numbersOf upTo
-loop-holds c = let s = c .before .before .before in (omega arith, refl, zero-add _ ∙ sym (s .pre .2), refl)
-
-read-place-requires : tie.Need-read-place-requires Inv-loop μ-loop
-read-place-requires c κs = omega arith
-
-group-of-requires : tie.Need-group-of-requires Inv-loop μ-loop
-group-of-requires c κs = search needs
+loop-holds c = (omega arith, refl, zero-add _ ∙ sym (c .before .before .before .pre .2), refl)
 
 put-group-requires : tie.Need-put-group-requires Inv-loop μ-loop
-put-group-requires c κs = let s = c .before .before .before .before .before .before .before .before in
-    let b = c .before .before .before .before .loop in
-    let t = needed-turn _ _ (next-place _ _ _ (c .before .before .read-place .ensures) (c .before .before .before .loop-test .taken)) (c .before .group-of .ensures) _ _ (b .inv .2) in
-    let n = needed-le (s .args .image .now) (s .args .base) (placesIn (s .args .places .now) (s .args .count)) in
-    let m = length-places (s .args .places .now) (s .args .count) in
-    (s .pre .0, s .pre .1, omega (arith, n, m, s .pre), omega (arith, t, s .pre), s .pre .4)
-
-count-past-requires : tie.Need-count-past-requires Inv-loop μ-loop
-count-past-requires c κs = let s = c .before .before .before .before .before .before .before .before .before .before .before in
-    let n = needed-le (s .args .image .now) (s .args .base) (placesIn (s .args .places .now) (s .args .count)) in
-    let m = length-places (s .args .places .now) (s .args .count) in
-    omega (arith, n, m, s .pre .2, s .pre .1, c .before .before .before .before .before .before .before .loop .inv .2)
+put-group-requires c κs = let t = needed-turn _ _ (next-place _ _ _ refl (c .before .loop-test .taken)) refl _ _ (c .before .before .loop .inv .2) in
+    let n = needed-le (c .before .before .before .before .before .before .args .image .now) (c .before .before .before .before .before .before .args .base) (placesIn (c .before .before .before .before .before .before .args .places .now) (c .before .before .before .before .before .before .args .count)) in
+    let m = length-places (c .before .before .before .before .before .before .args .places .now) (c .before .before .before .before .before .before .args .count) in
+    (c .before .before .before .before .before .before .pre .0, c .before .before .before .before .before .before .pre .1, omega (arith, n, m, c .before .before .before .before .before .before .pre .2, c .before .before .before .before .before .before .pre .1), c .before .loop-test .taken, omega (arith, t, c .before .before .before .before .before .before .pre .3), c .before .before .before .before .before .before .pre .4)
 
 add-i : tie.Need-add-i Inv-loop μ-loop
 add-i c = search needs
@@ -55,15 +41,14 @@ loop-less : tie.Need-loop-less Inv-loop μ-loop
 loop-less c = search needs
 
 loop-again : tie.Need-loop-again Inv-loop μ-loop
-loop-again c = let b = c .before .before .before .before .before .before .before .before .loop in
-    let turn = put-turn _ _ _ _ _ _ _ _ _ (c .before .before .before .before .before .before .before .loop-test .taken) (c .before .before .before .before .before .before .read-place .ensures) (c .before .before .before .before .before .group-of .ensures) (b .inv .2) (b .inv .3) (c .before .before .before .put-group .ensures) in
-    rw (c .count-past .ensures) (omega arith, omega arith, turn .0, turn .1)
+loop-again c = let turn = put-turn _ _ _ _ _ _ _ _ _ _ (c .before .before .before .before .loop-test .taken) (c .before .before .before .before .before .loop .inv .2) (c .before .before .before .before .before .loop .inv .3) (c .before .before .put-group .ensures) in
+    (omega arith, omega arith, turn .0, turn .1)
 
 same-length : tie.Need-same-length Inv-loop μ-loop
 same-length c = search needs
 
 returns : tie.Need-returns Inv-loop μ-loop
-returns c = let b = c .before .loop in put-end _ _ _ _ _ _ _ _ (c .loop-test .left) (b .inv .2) (b .inv .3)
+returns c = put-end _ _ _ _ _ _ _ _ (c .loop-test .left) (c .before .loop .inv .2) (c .before .loop .inv .3)
 
 pub put-groups-spec : {M : Type 1} → statement M
 put-groups-spec =
@@ -72,10 +57,7 @@ put-groups-spec =
     Inv-loop
     μ-loop
     loop-holds
-    read-place-requires
-    group-of-requires
     put-group-requires
-    count-past-requires
     add-i
     loop-less
     loop-again

@@ -32,8 +32,7 @@ same-length : tie.Need-same-length
 same-length c = search needs
 
 returns : tie.Need-returns
-returns c = rw (c .before .before .write-number3 .ensures, c .before .before .before .before .before .before .write-number2 .ensures, c .before .before .before .before .before .before .before .before .before .before .write-number .ensures)
-    (record-put _ _ _ _ _ (omega arith) (omega arith) (omega arith) (omega arith))
+returns c = rw (c .before .before .write-number3 .ensures, c .before .before .before .before .before .before .write-number2 .ensures, c .before .before .before .before .before .before .before .before .before .before .write-number .ensures) (record-put _ _ _ _ _ (omega arith) (omega arith) (omega arith) (omega arith))
 
 pub put-record-spec : {M : Type 1} → statement M
 put-record-spec =

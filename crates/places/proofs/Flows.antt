@@ -1,0 +1,89 @@
+-- Laws of what a word does to control.
+use Rattle.numbers.proofs.Choice.{either}
+use Rattle.numbers.specs.Number.{plus}
+use Rattle.numbers.specs.Choice.{pick}
+use Rattle.model.specs.declared.Place.the-variants.{Pair}
+use Rattle.model.specs.Places.{plain, whichOf, biccNames, idleBicc, Which, never, always, depends}
+use Rattle.model.specs.OldCore.{transferOf, target, Transfer, straight, trap, jmpl}
+use lib.Dec.{eqb}
+use borrow.Author.Tests.{ne-eqb}
+use mathlib.Core.List.{[], _∷_}
+use native.Mathlib.Nat.{add-mod-mod}
+use native.Mathlib.Omega.{arith}
+use mathlib.Core.Bool.{Bool, true, false}
+use mathlib.Core.Path.{_≡_, refl, sym, _∙_}
+use Prim.Native.Nat.{ℕ, _*_, _%_, _^_}
+use Rattle.words.specs.declared.Operand.{Operand}
+use Rattle.words.specs.declared.Operand.the-variants.{Constant}
+use Rattle.words.specs.declared.Instruction.the-variants.{Illegal, Call, Sethi, Bicc, Arithmetic, Jmpl, Ticc, Load, Store}
+use Rattle.words.specs.declared.Instruction.{Instruction}
+use Rattle.words.specs.declared.Flow.the-variants.{Traps, Continues}
+use Rattle.words.specs.Flow.{flowOf}
+use Rattle.places.specs.Control.{transferred}
+
+-- a displacement in words, shifted, is four times itself
+pub in-words : (p disp : ℕ) → plus p (disp * 4 % 2 ^ 32) ≡ target p disp
+unfolding plus target
+in-words p disp = add-mod-mod p (disp * 4) (2 ^ 32) ∙ omega arith
+
+-- what does not look at a jmpl's operands can be had from the flow alone
+pub by-flow : {A : Type 0} (f : Transfer → A) → ((rd rs1 : ℕ) (x : Operand) → f (jmpl rd rs1 x) ≡ f (jmpl rd 0 (Constant 0)))
+    → (i : Instruction) → f (transferred (flowOf i)) ≡ f (transferOf i)
+unfolding transferred flowOf transferOf
+by-flow f h Illegal = refl
+by-flow f h (Call disp) = refl
+by-flow f h (Sethi rd imm) = refl
+by-flow f h (Bicc cond annul disp) = refl
+by-flow f h (Arithmetic o cc rd rs1 x) = refl
+by-flow f h (Jmpl rd rs1 x) = sym (h rd rs1 x)
+by-flow f h (Ticc cond rs1 x) = go (eqb cond 8)
+  where
+    go : (b : Bool) → f (transferred (pick b Traps Continues)) ≡ f (pick b trap straight)
+    go true = refl
+    go false = refl
+by-flow f h (Load w sign rd rs1 x) = refl
+by-flow f h (Store w rd rs1 x) = refl
+
+-- a branch that may be held: condition 0, no annul
+each : (w : Which) → idleBicc w true ≡ false
+unfolding idleBicc
+each never = refl
+each always = refl
+each depends = refl
+
+pub annuls : (cond : ℕ) (annul : Bool) → annul ≡ true → idleBicc (whichOf cond) annul ≡ false
+annuls cond annul h = rw h (each (whichOf cond))
+
+pub idle : (cond : ℕ) (annul : Bool) → annul ≡ false → eqb cond 0 ≡ idleBicc (whichOf cond) annul
+unfolding whichOf idleBicc
+idle cond annul h = rw h (by-cond (eqb cond 0))
+  where
+    by-cond : (b : Bool) → b ≡ idleBicc (pick b never (pick (eqb cond 8) always depends)) false
+    by-cond true = refl
+    by-cond false = sym (either (λ (w : Which). idleBicc w false ≡ false) (eqb cond 8) always depends refl refl)
+
+-- what a branch names, by its condition
+module _ (cond : ℕ) (annul : Bool) (t n : ℕ) where
+  pub never-names : cond ≡ 0 → biccNames (whichOf cond) annul t n ≡ plain (pick annul (plus n 4) n) ∷ []
+  unfolding whichOf biccNames
+  never-names e = rw e (go annul)
+    where
+      go : (b : Bool) → biccNames never b t n ≡ plain (pick b (plus n 4) n) ∷ []
+      go true = refl
+      go false = refl
+
+  pub always-names : cond ≡ 8 → annul ≡ false → biccNames (whichOf cond) annul t n ≡ Pair n t ∷ []
+  unfolding whichOf biccNames
+  always-names e a = rw (e, a)
+
+  pub always-annuls : cond ≡ 8 → annul ≡ true → biccNames (whichOf cond) annul t n ≡ plain t ∷ []
+  unfolding whichOf biccNames
+  always-annuls e a = rw (e, a)
+
+  pub depends-names : (cond ≡ 0 → ⊥) → (cond ≡ 8 → ⊥) → biccNames (whichOf cond) annul t n ≡ Pair n t ∷ plain (pick annul (plus n 4) n) ∷ []
+  unfolding whichOf biccNames
+  depends-names h k = rw (ne-eqb cond 0 h, ne-eqb cond 8 k) (go annul)
+    where
+      go : (b : Bool) → biccNames depends b t n ≡ Pair n t ∷ plain (pick b (plus n 4) n) ∷ []
+      go true = refl
+      go false = refl

@@ -1,0 +1,14 @@
+use Rattle.places.proofs.Flows.{in-words}
+use mathlib.Core.Path.{_∙_}
+use borrow.Author.Needs.{needs}
+use Rattle.places.proofs.control.target.Statement.{statement}
+use Rattle.places.proofs.control.target.Tie as tie
+
+add-requires : tie.Need-add-requires
+add-requires c κs = search needs
+
+returns : tie.Need-returns
+returns c = c .add .ensures ∙ in-words _ _
+
+pub target-spec : {M : Type 1} → statement M
+target-spec = tie.close (tie.spec add-requires returns)

@@ -1,0 +1,50 @@
+use Rattle.places.specs.Table.{putPlace}
+use borrow.Author.Needs.{needs}
+use Rattle.places.proofs.table.write_place.Statement.{statement}
+use Rattle.places.proofs.table.write_place.Tie as tie
+
+mul-write-number : tie.Need-mul-write-number
+mul-write-number c = search needs
+
+write-number-requires : tie.Need-write-number-requires
+write-number-requires c κs = search needs
+
+mul-write-number-2 : tie.Need-mul-write-number-2
+mul-write-number-2 c = search needs
+
+add-write-number : tie.Need-add-write-number
+add-write-number c = search needs
+
+write-number-requires-2 : tie.Need-write-number-requires-2
+write-number-requires-2 c κs = search needs
+
+mul-write-number-3 : tie.Need-mul-write-number-3
+mul-write-number-3 c = search needs
+
+add-write-number-2 : tie.Need-add-write-number-2
+add-write-number-2 c = search needs
+
+write-number-requires-3 : tie.Need-write-number-requires-3
+write-number-requires-3 c κs = search needs
+
+same-length : tie.Need-same-length
+same-length c = search needs
+
+returns : tie.Need-returns
+unfolding putPlace
+returns c = rw (c .before .before .write-number3 .ensures, c .before .before .before .before .before .before .write-number2 .ensures, c .before .before .before .before .before .before .before .before .before .before .write-number .ensures)
+
+pub write-place-spec : {M : Type 1} → statement M
+write-place-spec =
+    tie.close
+    (tie.spec
+    mul-write-number
+    write-number-requires
+    mul-write-number-2
+    add-write-number
+    write-number-requires-2
+    mul-write-number-3
+    add-write-number-2
+    write-number-requires-3
+    same-length
+    returns)

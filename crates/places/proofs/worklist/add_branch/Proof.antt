@@ -1,0 +1,72 @@
+use Rattle.places.proofs.Flows.{never-names, always-names, always-annuls, depends-names}
+use Rattle.places.proofs.Walking.{known-two}
+use borrow.Author.Needs.{needs}
+use Rattle.places.proofs.worklist.add_branch.Statement.{statement}
+use Rattle.places.proofs.worklist.add_branch.Tie as tie
+use Rattle.places.proofs.worklist.add_branch.Reads as reads
+
+untaken-requires : tie.Need-untaken-requires
+untaken-requires c κs = search needs
+
+add-plain-requires : tie.Need-add-plain-requires
+add-plain-requires c κs = search needs
+
+same-length : tie.Need-same-length
+same-length c = search needs
+
+returns : tie.Need-returns
+returns c = rw (never-names (c .before .before .before .before .before .before .before .before .before .args .cond) (c .before .before .before .before .before .before .before .before .before .args .annul) (c .before .before .before .before .before .before .before .before .before .args .t) (c .before .before .before .before .before .before .before .before .before .args .n) (c .before .before .before .before .before .before .before .if1 .taken), ← c .before .before .before .untaken .ensures) (c .before .before .add-plain .ensures)
+
+add-plain-requires-2 : tie.Need-add-plain-requires-2
+add-plain-requires-2 c κs = search needs
+
+same-length-2 : tie.Need-same-length-2
+same-length-2 c = search needs
+
+returns-2 : tie.Need-returns-2
+returns-2 c = rw (always-annuls (c .before .before .before .before .before .before .before .before .before .before .args .cond) (c .before .before .before .before .before .before .before .before .before .before .args .annul) (c .before .before .before .before .before .before .before .before .before .before .args .t) (c .before .before .before .before .before .before .before .before .before .before .args .n) (c .before .before .before .before .before .before .before .if2 .taken) (c .before .before .before .before .before .before .if3 .taken)) (c .before .before .add-plain2 .ensures)
+
+add-pair-requires : tie.Need-add-pair-requires
+add-pair-requires c κs = search needs
+
+same-length-3 : tie.Need-same-length-3
+same-length-3 c = search needs
+
+returns-3 : tie.Need-returns-3
+returns-3 c = rw (always-names (c .before .before .before .before .before .before .before .before .before .before .args .cond) (c .before .before .before .before .before .before .before .before .before .before .args .annul) (c .before .before .before .before .before .before .before .before .before .before .args .t) (c .before .before .before .before .before .before .before .before .before .before .args .n) (c .before .before .before .before .before .before .before .if2 .taken) (c .before .before .before .before .before .before .if3 .left)) (c .before .before .add-pair .ensures)
+
+add-pair-requires-2 : tie.Need-add-pair-requires-2
+add-pair-requires-2 c κs = search needs
+
+untaken-requires-2 : tie.Need-untaken-requires-2
+untaken-requires-2 c κs = search needs
+
+then-plain-requires : tie.Need-then-plain-requires
+then-plain-requires c κs = search needs
+
+same-length-4 : tie.Need-same-length-4
+same-length-4 c = search needs
+
+returns-4 : tie.Need-returns-4
+returns-4 c = rw (depends-names (c .before .before .before .before .before .before .before .before .before .before .before .before .before .before .before .before .args .cond) (c .before .before .before .before .before .before .before .before .before .before .before .before .before .before .before .before .args .annul) (c .before .before .before .before .before .before .before .before .before .before .before .before .before .before .before .before .args .t) (c .before .before .before .before .before .before .before .before .before .before .before .before .before .before .before .before .args .n) (c .before .before .before .before .before .before .before .before .before .before .before .before .before .before .if1 .left) (c .before .before .before .before .before .before .before .before .before .before .before .before .before .if2 .left), ← c .before .before .before .untaken2 .ensures)
+    (known-two _ _ _ _ _ _ (c .before .before .before .before .before .before .before .before .before .add-pair2 .ensures .reads) (c .before .before .then-plain .ensures))
+
+pub add-branch-spec : {M : Type 1} → statement M
+add-branch-spec =
+    tie.close
+    (tie.spec
+    untaken-requires
+    add-plain-requires
+    same-length
+    returns
+    add-plain-requires-2
+    same-length-2
+    returns-2
+    add-pair-requires
+    same-length-3
+    returns-3
+    add-pair-requires-2
+    untaken-requires-2
+    then-plain-requires
+    same-length-4
+    returns-4)

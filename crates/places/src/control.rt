@@ -1,0 +1,60 @@
+// What a word says of places: the word at an address, where it leads, and whether it may stand held.
+ghost use mathlib.Core.Path.{_≡_};
+ghost use Rattle.numbers.specs.Choice.{pick};
+ghost use Rattle.numbers.specs.Number.{plus};
+ghost use Rattle.model.specs.OldCore.{wordIn, target};
+ghost use Rattle.model.specs.Places.{mayBeHeld};
+ghost use Rattle.places.specs.Control.{wordOf, transferred};
+use words::Flow;
+
+// The word at an address, if that lies in the image.
+pub enum Fetched {
+    Word(u32),
+    Outside,
+}
+
+pub fn fetch(image: &[u8], base: u32, p: u32) -> Fetched
+    ensures { λ r. ⌜ wordOf r ≡ wordIn (now (image .entry)) base p ⌝ }
+{
+    let at = numbers::subtract(p, base) as usize;
+    if at + 4 <= image.len() {
+        return Fetched::Word(numbers::read_number(image, at));
+    }
+    Fetched::Outside
+}
+
+// Where a displacement, which counts words, leads from an address.
+pub fn target(p: u32, disp: u32) -> u32
+    ensures { λ r. ⌜ r ≡ target p disp ⌝ }
+{
+    numbers::add(p, disp << 2)
+}
+
+// Where a branch that is not taken goes on: past its delay slot, if that is annulled.
+pub fn untaken(annul: bool, n: u32) -> u32
+    ensures { λ r. ⌜ r ≡ pick annul (plus n 4) n ⌝ }
+{
+    if annul {
+        return numbers::add(n, 4);
+    }
+    n
+}
+
+// Whether a word may stand held: no call, no jmpl, and of the branches one that is never taken and annuls nothing.
+pub fn may_be_held(f: Flow) -> bool
+    ensures { λ r. ⌜ r ≡ mayBeHeld (transferred f) ⌝ }
+{
+    match f {
+        Flow::Faults => true,
+        Flow::Continues => true,
+        Flow::Traps => true,
+        Flow::Calls(disp) => false,
+        Flow::Branches(cond, annul, disp) => {
+            if annul {
+                return false;
+            }
+            cond == 0
+        }
+        Flow::Jumps(rd) => false,
+    }
+}

@@ -1,0 +1,205 @@
+// The worklist: a place that is named takes the next number, unless it is present.
+ghost use mathlib.Core.Path.{_≡_};
+ghost use Prim.Native.Nat.{_*_, _≤_};
+ghost use mathlib.Core.List.{[], _∷_};
+ghost use lib.ListN.{length};
+ghost use Rattle.words.specs.declared.Flow.the-variants.{Jumps};
+ghost use Rattle.model.specs.declared.Place.the-variants.{Pair, Held};
+ghost use Rattle.model.specs.Places.{plain, whichOf, biccNames, names};
+ghost use Rattle.model.specs.Walk.{grow, grown};
+ghost use Rattle.places.specs.Control.{transferred};
+ghost use Rattle.places.specs.Table.{placeOf, placesIn, Shows};
+ghost use Rattle.places.specs.Index.{Indexed, IndexedBy, Known};
+ghost use Rattle.places.specs.Walk.{seen, counted, Within};
+use crate::control::target;
+use crate::control::untaken;
+use crate::index::enter;
+use crate::index::find;
+use crate::table::pair_kind;
+use crate::table::write_place;
+use words::Flow;
+
+// How the walk stands, or ended: so many places, a held place with a forbidden word, a place for which there is no room.
+pub enum Found {
+    Places(usize),
+    Forbidden(u32),
+    NoRoom(u32),
+}
+
+// Gives a place the next number, unless it is present. Answers the count, or one more than the room where there is none.
+fn add(
+    places: &mut [u8],
+    heads: &mut [u16; 8192],
+    links: &mut [u16; 8192],
+    count: usize,
+    room: usize,
+    p: u32,
+    n: u32,
+    kind: u32,
+) -> usize
+    requires { ⌜ (count ≤ room) × (16 * room ≤ length (now places)) × (room ≤ 8192) × Shows p n kind × Indexed (now places) count (now heads) (now links) ⌝ }
+    ensures { λ r. ⌜ Known room (grow room (placesIn (now (places .entry)) count) (placeOf p n kind ∷ [])) (counted room p r) (now (places .exit)) (now (heads .exit)) (now (links .exit)) ⌝ }
+{
+    if find(places, heads, links, count, p, n, kind) < count {
+        return count;
+    }
+    if count < room {
+        write_place(places, count, p, n, kind);
+        enter(heads, links, count, p, n);
+        return count + 1;
+    }
+    room + 1
+}
+
+fn counted(room: usize, a: u32, n: usize) -> Found
+    ensures { λ r. ⌜ r ≡ counted room a n ⌝ }
+{
+    if room < n {
+        return Found::NoRoom(a);
+    }
+    Found::Places(n)
+}
+
+pub fn add_plain(
+    places: &mut [u8],
+    heads: &mut [u16; 8192],
+    links: &mut [u16; 8192],
+    count: usize,
+    room: usize,
+    p: u32,
+) -> Found
+    requires { ⌜ (count ≤ room) × (16 * room ≤ length (now places)) × (room ≤ 8192) × Indexed (now places) count (now heads) (now links) ⌝ }
+    ensures { λ r. ⌜ Known room (grow room (placesIn (now (places .entry)) count) (plain p ∷ [])) r (now (places .exit)) (now (heads .exit)) (now (links .exit)) ⌝ }
+{
+    let m = add(places, heads, links, count, room, p, numbers::add(p, 4), 0);
+    counted(room, p, m)
+}
+
+fn add_pair(
+    places: &mut [u8],
+    heads: &mut [u16; 8192],
+    links: &mut [u16; 8192],
+    count: usize,
+    room: usize,
+    p: u32,
+    n: u32,
+) -> Found
+    requires { ⌜ (count ≤ room) × (16 * room ≤ length (now places)) × (room ≤ 8192) × Indexed (now places) count (now heads) (now links) ⌝ }
+    ensures { λ r. ⌜ Known room (grow room (placesIn (now (places .entry)) count) (Pair p n ∷ [])) r (now (places .exit)) (now (heads .exit)) (now (links .exit)) ⌝ }
+{
+    let m = add(places, heads, links, count, room, p, n, pair_kind(p, n));
+    counted(room, p, m)
+}
+
+fn add_held(
+    places: &mut [u8],
+    heads: &mut [u16; 8192],
+    links: &mut [u16; 8192],
+    count: usize,
+    room: usize,
+    p: u32,
+) -> Found
+    requires { ⌜ (count ≤ room) × (16 * room ≤ length (now places)) × (room ≤ 8192) × Indexed (now places) count (now heads) (now links) ⌝ }
+    ensures { λ r. ⌜ Known room (grow room (placesIn (now (places .entry)) count) (Held p ∷ [])) r (now (places .exit)) (now (heads .exit)) (now (links .exit)) ⌝ }
+{
+    let m = add(places, heads, links, count, room, p, 0, 2);
+    counted(room, p, m)
+}
+
+// Adds a plain place after another, if there was room for that.
+fn then_plain(
+    places: &mut [u8],
+    heads: &mut [u16; 8192],
+    links: &mut [u16; 8192],
+    w: Found,
+    room: usize,
+    p: u32,
+) -> Found
+    requires { ⌜ Within room w × (16 * room ≤ length (now places)) × (room ≤ 8192) × IndexedBy w (now places) (now heads) (now links) ⌝ }
+    ensures { λ r. ⌜ Known room (grown (λ ps. grow room ps (plain p ∷ [])) (seen w (now (places .entry)))) r (now (places .exit)) (now (heads .exit)) (now (links .exit)) ⌝ }
+{
+    match w {
+        Found::Places(n) => add_plain(places, heads, links, n, room, p),
+        Found::Forbidden(a) => Found::Forbidden(a),
+        Found::NoRoom(a) => Found::NoRoom(a),
+    }
+}
+
+// Adds what a Bicc names.
+fn add_branch(
+    places: &mut [u8],
+    heads: &mut [u16; 8192],
+    links: &mut [u16; 8192],
+    count: usize,
+    room: usize,
+    cond: u32,
+    annul: bool,
+    t: u32,
+    n: u32,
+) -> Found
+    requires { ⌜ (count ≤ room) × (16 * room ≤ length (now places)) × (room ≤ 8192) × Indexed (now places) count (now heads) (now links) ⌝ }
+    ensures { λ r. ⌜ Known room (grow room (placesIn (now (places .entry)) count) (biccNames (whichOf cond) annul t n)) r (now (places .exit)) (now (heads .exit)) (now (links .exit)) ⌝ }
+{
+    if cond == 0 {
+        return add_plain(places, heads, links, count, room, untaken(annul, n));
+    }
+    if cond == 8 {
+        if annul {
+            return add_plain(places, heads, links, count, room, t);
+        }
+        return add_pair(places, heads, links, count, room, n, t);
+    }
+    let w = add_pair(places, heads, links, count, room, n, t);
+    then_plain(places, heads, links, w, room, untaken(annul, n))
+}
+
+// Adds what a jmpl names: what follows the delay slot is known only when run, and comes back only to a link.
+fn add_jump(
+    places: &mut [u8],
+    heads: &mut [u16; 8192],
+    links: &mut [u16; 8192],
+    count: usize,
+    room: usize,
+    rd: u32,
+    p: u32,
+    n: u32,
+) -> Found
+    requires { ⌜ (count ≤ room) × (16 * room ≤ length (now places)) × (room ≤ 8192) × Indexed (now places) count (now heads) (now links) ⌝ }
+    ensures { λ r. ⌜ Known room (grow room (placesIn (now (places .entry)) count) (names (transferred (Jumps rd)) p n)) r (now (places .exit)) (now (heads .exit)) (now (links .exit)) ⌝ }
+{
+    let w = add_held(places, heads, links, count, room, n);
+    if rd == 0 {
+        return w;
+    }
+    then_plain(places, heads, links, w, room, numbers::add(p, 8))
+}
+
+// Adds what a word at (p, n) names, in its order.
+pub fn add_names(
+    places: &mut [u8],
+    heads: &mut [u16; 8192],
+    links: &mut [u16; 8192],
+    count: usize,
+    room: usize,
+    f: Flow,
+    p: u32,
+    n: u32,
+) -> Found
+    requires { ⌜ (count ≤ room) × (16 * room ≤ length (now places)) × (room ≤ 8192) × Indexed (now places) count (now heads) (now links) ⌝ }
+    ensures { λ r. ⌜ Known room (grow room (placesIn (now (places .entry)) count) (names (transferred f) p n)) r (now (places .exit)) (now (heads .exit)) (now (links .exit)) ⌝ }
+{
+    match f {
+        Flow::Faults => Found::Places(count),
+        Flow::Traps => Found::Places(count),
+        Flow::Continues => add_plain(places, heads, links, count, room, n),
+        Flow::Calls(disp) => {
+            let w = add_pair(places, heads, links, count, room, n, target(p, disp));
+            then_plain(places, heads, links, w, room, numbers::add(p, 8))
+        }
+        Flow::Branches(cond, annul, disp) => {
+            let t = target(p, disp);
+            add_branch(places, heads, links, count, room, cond, annul, t, n)
+        }
+        Flow::Jumps(rd) => add_jump(places, heads, links, count, room, rd, p, n),
+    }
+}

@@ -1,0 +1,78 @@
+use native.Mathlib.Omega.{arith}
+use mathlib.Core.Path.{sym, ap, _∙_}
+use Rattle.words.specs.Reader.{byFormat}
+use Rattle.words.specs.Flow.{flowOf}
+use Rattle.words.specs.declared.Flow.the-variants.{Calls}
+use Rattle.words.proofs.Reader.{by-op, top-two}
+use borrow.Author.Needs.{needs}
+use Rattle.words.proofs.read_flow.Statement.{statement}
+use Rattle.words.proofs.read_flow.Tie as tie
+
+op-requires : tie.Need-op-requires
+op-requires c κs = search needs
+
+flow0-requires : tie.Need-flow0-requires
+flow0-requires c κs = search needs
+
+returns : tie.Need-returns
+unfolding byFormat
+returns c = c .flow0 .ensures ∙ sym (ap flowOf (by-op _ _ 0 (c .before .before .before .op .ensures) (c .before .if2 .taken)))
+
+disp30-requires : tie.Need-disp30-requires
+disp30-requires c κs = search needs
+
+returns-2 : tie.Need-returns-2
+unfolding byFormat flowOf
+returns-2 c = ap Calls (c .disp30 .ensures) ∙ sym (ap flowOf (by-op _ _ 1 (c .before .before .before .op .ensures) (omega arith)))
+
+op3-requires : tie.Need-op3-requires
+op3-requires c κs = search needs
+
+cond-requires : tie.Need-cond-requires
+cond-requires c κs = search needs
+
+rd-requires : tie.Need-rd-requires
+rd-requires c κs = search needs
+
+flow2-requires : tie.Need-flow2-requires
+flow2-requires c κs = search needs
+
+returns-3 : tie.Need-returns-3
+unfolding byFormat
+returns-3 c = rw (
+  by-op _ _ 2 (c .before .before .before .before .before .before .op .ensures) (c .before .before .before .before .if3 .taken),
+  ← c .before .before .before .op3 .ensures,
+  ← c .before .before .cond .ensures,
+  ← c .before .rd .ensures,
+) (c .flow2 .ensures _ _)
+
+op3-requires-2 : tie.Need-op3-requires-2
+op3-requires-2 c κs = search needs
+
+flow3-requires : tie.Need-flow3-requires
+flow3-requires c κs = search needs
+
+returns-4 : tie.Need-returns-4
+unfolding byFormat
+returns-4 c = rw (
+  by-op _ _ 3 (c .before .before .before .before .op .ensures) (omega (arith, top-two _ _ (c .before .before .before .before .op .ensures))),
+  ← c .before .op32 .ensures,
+) (c .flow3 .ensures _ _ _)
+
+pub read-flow-spec : {M : Type 1} → statement M
+read-flow-spec =
+    tie.close
+    (tie.spec
+    op-requires
+    flow0-requires
+    returns
+    disp30-requires
+    returns-2
+    op3-requires
+    cond-requires
+    rd-requires
+    flow2-requires
+    returns-3
+    op3-requires-2
+    flow3-requires
+    returns-4)
