@@ -48,9 +48,8 @@ static uint32_t some_condition(uint32_t *state)
 static void make_straight(struct sample *s)
 {
     uint32_t state = 1;
-    for (size_t i = 0; i + 1 < s->words; i++)
-        put_word(s->image + 4 * i, straight_word(&state));
-    put_word(s->image + 4 * (s->words - 1), always_trap());
+    for (size_t i = 0; i < SAMPLE_WORDS; i++)
+        put_word(s->images + 4 * i, i % s->words + 1 < s->words ? straight_word(&state) : always_trap());
     s->places_length = s->words * PLACE_BYTES;
     s->records_length = (2 * s->words - 1) * RECORD_BYTES;
 }
@@ -61,19 +60,19 @@ static void make_branches(struct sample *s)
 {
     uint32_t state = 2;
     size_t branches = s->words - 3, places = s->words + branches;
-    for (size_t i = 0; i < s->words; i++)
-        put_word(s->image + 4 * i, i < branches ? branch(some_condition(&state), false, 4) : always_trap());
+    for (size_t i = 0; i < SAMPLE_WORDS; i++)
+        put_word(s->images + 4 * i, i % s->words < branches ? branch(some_condition(&state), false, 4) : always_trap());
     s->places_length = places * PLACE_BYTES;
     s->records_length = (2 * places - 4) * RECORD_BYTES; /* a trap has one record, and stands in four places */
 }
 
-/* Conditional branches to anywhere in the image, with the annul bit or without: the slot places never end. */
+/* One image: conditional branches to anywhere in it, with the annul bit or without: the slot places never end. */
 static void make_refused(struct sample *s)
 {
     uint32_t state = 3;
     for (size_t i = 0; i < s->words; i++) {
         int ahead = (int)(drawn(&state) % s->words) - (int)i;
-        put_word(s->image + 4 * i, branch(some_condition(&state), drawn(&state) % 2, ahead));
+        put_word(s->images + 4 * i, branch(some_condition(&state), drawn(&state) % 2, ahead));
     }
     s->number = 5;
     s->places_length = PLACES_ROOM; /* room for the 8,193rd, so that the limit refuses it and not the table */
