@@ -31,8 +31,7 @@ static void begin(const struct core *core, const struct program *program, struct
 {
     memset(side->state, 0, sizeof side->state);
     core->begin(program, side->state);
-    for (size_t i = 0; i < DATA_LENGTH; i++)
-        side->data[i] = (uint8_t)(i * 37 + 11);
+    first_data(side->data);
     side->best = 1e9;
 }
 

@@ -1,19 +1,19 @@
-/* The three loops that both benchmarks run: the old core the words, the new core their translations. After an edit,
- * bench/translate makes the translations again. */
+/* The three loops that the cores' benchmarks run: the old core the words, the new core their translations. After an
+ * edit, bench/translate makes the translations again, and the programs in whole.c may take other numbers. */
 #include "loops.h"
 
 #include "numbers.h"
 #include "words.h"
 
-static struct loop loop_of(const char *name, const uint32_t *words, size_t count)
+static struct loop loop_of(const char *name, const uint32_t *words, size_t count, size_t closing)
 {
-    struct loop loop = { .name = name, .length = 4 * count };
+    struct loop loop = { .name = name, .length = 4 * count, .closing = closing };
     for (size_t i = 0; i < count; i++)
         put_word(loop.image + 4 * i, words[i]);
     return loop;
 }
 
-#define LOOP_OF(name, words) loop_of(name, words, sizeof words / sizeof words[0])
+#define LOOP_OF(name, words, closing) loop_of(name, words, sizeof words / sizeof words[0], closing)
 
 static struct loop arithmetic_loop(void)
 {
@@ -34,7 +34,7 @@ static struct loop arithmetic_loop(void)
         branch(COND_ALWAYS, false, -13),             /* 13       ba    loop */
         compute(OP3_ORN, 10, 2, 10),                 /* 14       orn   r2, r10, r10 */
     };
-    return LOOP_OF("arithmetic", words);
+    return LOOP_OF("arithmetic", words, 13);
 }
 
 static struct loop memory_loop(void)
@@ -55,7 +55,7 @@ static struct loop memory_loop(void)
         branch(COND_ALWAYS, false, -11),            /* 12       ba    loop */
         compute(OP3_XOR, 6, 6, 5),                  /* 13       xor   r6, r5, r6 */
     };
-    return LOOP_OF("memory", words);
+    return LOOP_OF("memory", words, 12);
 }
 
 static struct loop mixed_loop(void)
@@ -82,7 +82,16 @@ static struct loop mixed_loop(void)
         compute_constant(OP3_JMPL, 0, 15, 8),         /* 18       jmpl  r15 + 8, r0 */
         compute(OP3_XOR, 9, 9, 13),                   /* 19       xor   r9, r13, r9 */
     };
-    return LOOP_OF("mixed", words);
+    return LOOP_OF("mixed", words, 13);
+}
+
+static struct loop empty_loop(void)
+{
+    const uint32_t words[] = {
+        branch(COND_ALWAYS, false, 0), /*  0 loop: ba    loop */
+        sethi(0, 0),                   /*  1       nop */
+    };
+    return LOOP_OF("nothing", words, 0);
 }
 
 struct loop loop_at(int number)
@@ -90,6 +99,13 @@ struct loop loop_at(int number)
     switch (number) {
     case 0: return arithmetic_loop();
     case 1: return memory_loop();
-    default: return mixed_loop();
+    case 2: return mixed_loop();
+    default: return empty_loop();
     }
+}
+
+void first_data(uint8_t data[DATA_LENGTH])
+{
+    for (size_t i = 0; i < DATA_LENGTH; i++)
+        data[i] = (uint8_t)(i * 37 + 11);
 }

@@ -17,9 +17,13 @@ struct loop {
     const char *name;
     uint8_t image[4 * LOOP_WORDS];
     size_t length;
+    size_t closing; /* the position of the ba that goes back to begin another turn */
 };
 
-/* 0 arithmetic, 1 memory, 2 mixed */
+/* 0 arithmetic, 1 memory, 2 mixed; and 3, LOOPS itself, an empty one that no core is measured on */
 struct loop loop_at(int number);
+
+/* What every run finds as its data. */
+void first_data(uint8_t data[DATA_LENGTH]);
 
 #endif
