@@ -7,10 +7,11 @@ use lib.ListN.{length, take, drop, drop-of-length-le}
 use lib.Dec.{leb}
 use mathlib.Core.List.{List, [], _++_, append-nil}
 use mathlib.Core.Bool.{Bool, true, false, false≢true}
-use Prim.Native.Nat.{ℕ, suc, _+_, _-_, _<_, _≤_, min}
+use Prim.Native.Nat.{ℕ, zero, suc, _+_, _-_, _<_, _≤_, min}
 use mathlib.Core.Path.{_≡_, ap, _∙_, refl, sym}
 use native.Mathlib.Omega.{arith}
-use Rattle.machine.specs.Ends.{Next, State, endingOf, isGoing, left}
+use Rattle.machine.specs.Ends.{Next, State, settle, endingOf, isGoing, left}
+use Rattle.machine.proofs.Ends.{going-is}
 use Rattle.model.specs.Run.{step, run, dataOf, beyond, lent}
 
 -- n − i steps are left of n; one of them is done
@@ -60,3 +61,15 @@ ended-stays next s (Misaligned v) h = refl
 ended-stays next s (Unfit v) h = refl
 ended-stays next s (NoPlace v) h = refl
 ended-stays next s (BadRecord v) h = refl
+
+-- and so the rest of its run
+pub run-ended : {S : Type 0} (next : S → Next S) (n : ℕ) (s : S) (e : End) (z : State S) → isGoing e ≡ false → run next n (left s e) ≡ z → left s e ≡ z
+unfolding run
+run-ended next zero s e z h k = k
+run-ended next (suc n) s e z h k =
+    run-ended next n s e z h (rw (← ended-stays next s e h) at k)
+
+-- a step on a state that goes on
+pub step-going : {S : Type 0} (next : S → Next S) (s : S) (e : End) → isGoing e ≡ true → settle s (next s) ≡ step next (left s e)
+unfolding step
+step-going next s e h = rw (going-is e h)

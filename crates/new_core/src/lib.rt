@@ -265,8 +265,8 @@ fn obey(
     }
 }
 
-// A step on an ended state changes nothing; a record past the last is bad.
-fn step_on(
+// Does the record at hand; one past the last is bad.
+fn proceed(
     records: &[u8],
     places: &[u8],
     base: u32,
@@ -276,20 +276,17 @@ fn step_on(
     c: NewControl,
     area: &mut [u8],
 ) -> NewControl
-    ensures { λ r. ⌜ newState (now (regs .exit)) r (now (area .exit)) ≡ step (newNext (now (records .entry)) (now (places .entry)) base size db) (newState (now (regs .entry)) c (now (area .entry))) ⌝ }
+    ensures { λ r. ⌜ newState (now (regs .exit)) r (now (area .exit)) ≡ settle (newOf (now (regs .entry)) c (now (area .entry))) (newNext (now (records .entry)) (now (places .entry)) base size db (newOf (now (regs .entry)) c (now (area .entry)))) ⌝ }
 {
-    let e = c.end;
-    if machine::is_going(e) {
-        let k = c.at;
-        let at = 12 * (k.0 as usize);
-        if at + 12 <= records.len() {
-            return obey(records, at, places, base, size, db, regs, c, area);
-        }
-        return bad(c);
+    let k = c.at;
+    let at = 12 * (k.0 as usize);
+    if at + 12 <= records.len() {
+        return obey(records, at, places, base, size, db, regs, c, area);
     }
-    c
+    bad(c)
 }
 
+// Does count records, or fewer where the run ends: a step on an ended state changes nothing.
 fn steps(
     records: &[u8],
     places: &[u8],
@@ -306,7 +303,11 @@ fn steps(
     let mut s = c;
     let mut i: u16 = 0;
     while i < count {
-        s = step_on(records, places, base, size, db, regs, s, area);
+        let e = s.end;
+        if !machine::is_going(e) {
+            return s;
+        }
+        s = proceed(records, places, base, size, db, regs, s, area);
         i += 1;
     }
     s

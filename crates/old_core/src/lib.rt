@@ -177,24 +177,7 @@ fn pass(
     fetch(image, base, db, regs, c, area)
 }
 
-// A step on an ended state changes nothing.
-fn step_on(
-    image: &[u8],
-    base: u32,
-    db: u32,
-    regs: &mut [u32; 32],
-    c: OldControl,
-    area: &mut [u8],
-) -> OldControl
-    ensures { λ r. ⌜ oldState (now (regs .exit)) r (now (area .exit)) ≡ step (oldNext (now (image .entry)) base db) (oldState (now (regs .entry)) c (now (area .entry))) ⌝ }
-{
-    let e = c.end;
-    if machine::is_going(e) {
-        return pass(image, base, db, regs, c, area);
-    }
-    c
-}
-
+// Passes count words, or fewer where the run ends: a step on an ended state changes nothing.
 fn steps(
     image: &[u8],
     base: u32,
@@ -209,7 +192,11 @@ fn steps(
     let mut s = c;
     let mut i: u16 = 0;
     while i < count {
-        s = step_on(image, base, db, regs, s, area);
+        let e = s.end;
+        if !machine::is_going(e) {
+            return s;
+        }
+        s = pass(image, base, db, regs, s, area);
         i += 1;
     }
     s

@@ -1,0 +1,36 @@
+use Rattle.model.specs.NewCore.{newNext, does}
+use Rattle.new_core.proofs.Records.{at-hand, past-last}
+use borrow.Author.Needs.{needs}
+use Rattle.new_core.proofs.proceed.Statement.{statement}
+use Rattle.new_core.proofs.proceed.Tie as tie
+
+cast-at : tie.Need-cast-at
+cast-at c = search needs
+
+mul-at : tie.Need-mul-at
+mul-at c = search needs
+
+add-if1 : tie.Need-add-if1
+add-if1 c = search needs
+
+obey-requires : tie.Need-obey-requires
+obey-requires c κs = search needs
+
+same-length : tie.Need-same-length
+same-length c = search needs
+
+returns : tie.Need-returns
+unfolding newNext
+returns c = rw (at-hand _ _ (c .before .before .before .before .before .if1 .taken)) (c .before .before .obey .ensures)
+
+bad-requires : tie.Need-bad-requires
+bad-requires c κs = search needs
+
+returns-2 : tie.Need-returns-2
+unfolding newNext does
+returns-2 c = rw (past-last _ _ (c .before .if1 .left)) (c .bad .ensures _ _)
+
+pub proceed-spec : {M : Type 1} → statement M
+proceed-spec =
+    tie.close
+    (tie.spec cast-at mul-at add-if1 obey-requires same-length returns bad-requires returns-2)
