@@ -17,7 +17,6 @@ use borrow.Author.Tests.{eq-eqb, ne-eqb}
 use lib.ListN.{length, drop, getElem?}
 use lib.Dec.{eqb}
 use native.Mathlib.Numerals.{add-one}
-use native.Mathlib.Omega.{arith}
 use mathlib.Core.Option.{none, some}
 use mathlib.Core.List.{List, [], _∷_}
 use mathlib.Core.Bool.{Bool, true, false, _&&_}
@@ -92,13 +91,13 @@ unfolding idleBicc whichOf
 may-be-taken cond annul h n = rw (h, ne-eqb cond 0 n) (either (λ (w : Which). idleBicc w false ≡ false) (eqb cond 8) always depends refl refl)
 
 -- the record at hand
-pub at-hand : (records : List ℕ) (r : ℕ) → 12 * r + 12 ≤ length records → getElem? (recordsIn records) r ≡ some (recordAt records r)
+pub at-hand : (records : List ℕ) (r : ℕ) → r < length records / 12 → getElem? (recordsIn records) r ≡ some (recordAt records r)
 unfolding recordsIn
-at-hand records r h = at-up (recordAt records) (length records / 12) r (omega arith)
+at-hand records r h = at-up (recordAt records) (length records / 12) r h
 
-pub past-last : (records : List ℕ) (r : ℕ) → length records < 12 * r + 12 → getElem? (recordsIn records) r ≡ none
+pub past-last : (records : List ℕ) (r : ℕ) → length records / 12 ≤ r → getElem? (recordsIn records) r ≡ none
 unfolding recordsIn
-past-last records r h = past-up (recordAt records) (length records / 12) r (omega arith)
+past-last records r h = past-up (recordAt records) (length records / 12) r h
 
 and-false : (b : Bool) → b && false ≡ false
 and-false true = refl

@@ -265,7 +265,7 @@ fn obey(
     }
 }
 
-// Does the record at hand; one past the last is bad.
+// Does the record at hand; one past the last is bad. The number of records stays, so that it is worked out once for a run.
 fn proceed(
     records: &[u8],
     places: &[u8],
@@ -279,9 +279,9 @@ fn proceed(
     ensures { λ r. ⌜ newState (now (regs .exit)) r (now (area .exit)) ≡ settle (newOf (now (regs .entry)) c (now (area .entry))) (newNext (now (records .entry)) (now (places .entry)) base size db (newOf (now (regs .entry)) c (now (area .entry)))) ⌝ }
 {
     let k = c.at;
-    let at = 12 * (k.0 as usize);
-    if at + 12 <= records.len() {
-        return obey(records, at, places, base, size, db, regs, c, area);
+    let n = k.0 as usize;
+    if n < records.len() / 12 {
+        return obey(records, 12 * n, places, base, size, db, regs, c, area);
     }
     bad(c)
 }

@@ -4,14 +4,11 @@ use borrow.Author.Needs.{needs}
 use Rattle.new_core.proofs.proceed.Statement.{statement}
 use Rattle.new_core.proofs.proceed.Tie as tie
 
-cast-at : tie.Need-cast-at
-cast-at c = search needs
+cast-n : tie.Need-cast-n
+cast-n c = search needs
 
-mul-at : tie.Need-mul-at
-mul-at c = search needs
-
-add-if1 : tie.Need-add-if1
-add-if1 c = search needs
+mul-obey : tie.Need-mul-obey
+mul-obey c = search needs
 
 obey-requires : tie.Need-obey-requires
 obey-requires c κs = search needs
@@ -32,5 +29,4 @@ returns-2 c = rw (past-last _ _ (c .before .if1 .left)) (c .bad .ensures _ _)
 
 pub proceed-spec : {M : Type 1} → statement M
 proceed-spec =
-    tie.close
-    (tie.spec cast-at mul-at add-if1 obey-requires same-length returns bad-requires returns-2)
+    tie.close (tie.spec cast-n mul-obey obey-requires same-length returns bad-requires returns-2)
