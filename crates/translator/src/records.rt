@@ -23,54 +23,51 @@ use places::table::next;
 use places::table::pair_kind;
 use words::Flow;
 
+// How many places and records there are.
+pub struct Extent {
+    pub count: usize,
+    pub total: usize,
+}
+
 // The first record of a place, as the table has it; past the last record where the table has it not.
 fn first_record(
     places: &[u8],
     heads: &[u16; 8192],
     links: &[u16; 8192],
-    count: usize,
-    total: usize,
+    e: Extent,
     p: u32,
     n: u32,
     kind: u32,
 ) -> u32
-    requires { ⌜ (16 * count ≤ length (now places)) × (count ≤ 8192) × (total ≤ 16384) × Shows p n kind × Indexed (now places) count (now heads) (now links) ⌝ }
-    ensures { λ r. ⌜ r ≡ firstIn (now (places .entry)) count total (placeOf p n kind) ⌝ }
+    requires { ⌜ (16 * e .count ≤ length (now places)) × (e .count ≤ 8192) × (e .total ≤ 16384) × Shows p n kind × Indexed (now places) (e .count) (now heads) (now links) ⌝ }
+    ensures { λ r. ⌜ r ≡ firstIn (now (places .entry)) (e .count) (e .total) (placeOf p n kind) ⌝ }
 {
-    let j = find(places, heads, links, count, p, n, kind);
-    if j < count {
+    let j = find(places, heads, links, e.count, p, n, kind);
+    if j < e.count {
         return numbers::read_number(places, 16 * j + 12);
     }
-    total as u32
+    e.total as u32
 }
 
-fn first_of_plain(
-    places: &[u8],
-    heads: &[u16; 8192],
-    links: &[u16; 8192],
-    count: usize,
-    total: usize,
-    p: u32,
-) -> u32
-    requires { ⌜ (16 * count ≤ length (now places)) × (count ≤ 8192) × (total ≤ 16384) × Indexed (now places) count (now heads) (now links) ⌝ }
-    ensures { λ r. ⌜ r ≡ firstIn (now (places .entry)) count total (plain p) ⌝ }
+fn first_of_plain(places: &[u8], heads: &[u16; 8192], links: &[u16; 8192], e: Extent, p: u32) -> u32
+    requires { ⌜ (16 * e .count ≤ length (now places)) × (e .count ≤ 8192) × (e .total ≤ 16384) × Indexed (now places) (e .count) (now heads) (now links) ⌝ }
+    ensures { λ r. ⌜ r ≡ firstIn (now (places .entry)) (e .count) (e .total) (plain p) ⌝ }
 {
-    first_record(places, heads, links, count, total, p, numbers::add(p, 4), 0)
+    first_record(places, heads, links, e, p, numbers::add(p, 4), 0)
 }
 
 fn first_of_pair(
     places: &[u8],
     heads: &[u16; 8192],
     links: &[u16; 8192],
-    count: usize,
-    total: usize,
+    e: Extent,
     p: u32,
     n: u32,
 ) -> u32
-    requires { ⌜ (16 * count ≤ length (now places)) × (count ≤ 8192) × (total ≤ 16384) × Indexed (now places) count (now heads) (now links) ⌝ }
-    ensures { λ r. ⌜ r ≡ firstIn (now (places .entry)) count total (Pair p n) ⌝ }
+    requires { ⌜ (16 * e .count ≤ length (now places)) × (e .count ≤ 8192) × (e .total ≤ 16384) × Indexed (now places) (e .count) (now heads) (now links) ⌝ }
+    ensures { λ r. ⌜ r ≡ firstIn (now (places .entry)) (e .count) (e .total) (Pair p n) ⌝ }
 {
-    first_record(places, heads, links, count, total, p, n, pair_kind(p, n))
+    first_record(places, heads, links, e, p, n, pair_kind(p, n))
 }
 
 // Puts record `at`.
@@ -115,8 +112,7 @@ fn put_branch(
     places: &[u8],
     heads: &[u16; 8192],
     links: &[u16; 8192],
-    count: usize,
-    total: usize,
+    e: Extent,
     records: &mut [u8],
     at: usize,
     cond: u32,
@@ -124,23 +120,23 @@ fn put_branch(
     t: u32,
     n: u32,
 ) -> usize
-    requires { ⌜ (16 * count ≤ length (now places)) × (count ≤ 8192) × (total ≤ 16384) × (12 * past (biccGroup (whichOf cond) cond annul t n) at ≤ length (now records)) × Indexed (now places) count (now heads) (now links) ⌝ }
-    ensures { λ r. ⌜ Puts (firstIn (now (places .entry)) count total) (biccGroup (whichOf cond) cond annul t n) at (now (records .entry)) (now (records .exit)) r ⌝ }
+    requires { ⌜ (16 * e .count ≤ length (now places)) × (e .count ≤ 8192) × (e .total ≤ 16384) × (12 * past (biccGroup (whichOf cond) cond annul t n) at ≤ length (now records)) × Indexed (now places) (e .count) (now heads) (now links) ⌝ }
+    ensures { λ r. ⌜ Puts (firstIn (now (places .entry)) (e .count) (e .total)) (biccGroup (whichOf cond) cond annul t n) at (now (records .entry)) (now (records .exit)) r ⌝ }
 {
     if cond == 0 {
-        let f = first_of_plain(places, heads, links, count, total, untaken(annul, n));
+        let f = first_of_plain(places, heads, links, e, untaken(annul, n));
         return put_one(records, at, 5, f, 0);
     }
     if cond == 8 {
         if annul {
-            let f = first_of_plain(places, heads, links, count, total, t);
+            let f = first_of_plain(places, heads, links, e, t);
             return put_one(records, at, 5, f, 0);
         }
-        let f = first_of_pair(places, heads, links, count, total, n, t);
+        let f = first_of_pair(places, heads, links, e, n, t);
         return put_one(records, at, 5, f, 0);
     }
-    let f = first_of_pair(places, heads, links, count, total, n, t);
-    let g = first_of_plain(places, heads, links, count, total, untaken(annul, n));
+    let f = first_of_pair(places, heads, links, e, n, t);
+    let g = first_of_plain(places, heads, links, e, untaken(annul, n));
     put_two(records, at, 4, cond, f, 5, g)
 }
 
@@ -149,8 +145,7 @@ fn put_word(
     places: &[u8],
     heads: &[u16; 8192],
     links: &[u16; 8192],
-    count: usize,
-    total: usize,
+    e: Extent,
     records: &mut [u8],
     at: usize,
     f: Flow,
@@ -158,38 +153,26 @@ fn put_word(
     p: u32,
     n: u32,
 ) -> usize
-    requires { ⌜ (16 * count ≤ length (now places)) × (count ≤ 8192) × (total ≤ 16384) × (12 * past (groupOf (transferred f) word p n) at ≤ length (now records)) × Indexed (now places) count (now heads) (now links) ⌝ }
-    ensures { λ r. ⌜ Puts (firstIn (now (places .entry)) count total) (groupOf (transferred f) word p n) at (now (records .entry)) (now (records .exit)) r ⌝ }
+    requires { ⌜ (16 * e .count ≤ length (now places)) × (e .count ≤ 8192) × (e .total ≤ 16384) × (12 * past (groupOf (transferred f) word p n) at ≤ length (now records)) × Indexed (now places) (e .count) (now heads) (now links) ⌝ }
+    ensures { λ r. ⌜ Puts (firstIn (now (places .entry)) (e .count) (e .total)) (groupOf (transferred f) word p n) at (now (records .entry)) (now (records .exit)) r ⌝ }
 {
     match f {
         Flow::Faults => put_one(records, at, 7, 3, p),
         Flow::Continues => {
-            let to = first_of_plain(places, heads, links, count, total, n);
+            let to = first_of_plain(places, heads, links, e, n);
             put_two(records, at, 1, word, 0, 5, to)
         }
         Flow::Traps => put_one(records, at, 1, word, 0),
         Flow::Calls(disp) => {
-            let to = first_of_pair(places, heads, links, count, total, n, target(p, disp));
+            let to = first_of_pair(places, heads, links, e, n, target(p, disp));
             put_two(records, at, 2, p, 0, 5, to)
         }
         Flow::Branches(cond, annul, disp) => {
             let t = target(p, disp);
-            put_branch(
-                places,
-                heads,
-                links,
-                count,
-                total,
-                records,
-                at,
-                cond,
-                annul,
-                t,
-                n,
-            )
+            put_branch(places, heads, links, e, records, at, cond, annul, t, n)
         }
         Flow::Jumps(rd) => {
-            let to = first_record(places, heads, links, count, total, n, 0, 2);
+            let to = first_record(places, heads, links, e, n, 0, 2);
             put_two(records, at, 3, word, p, 5, to)
         }
     }
@@ -217,14 +200,13 @@ fn put_group(
     places: &[u8],
     heads: &[u16; 8192],
     links: &[u16; 8192],
-    count: usize,
-    total: usize,
+    e: Extent,
     records: &mut [u8],
     at: usize,
     i: usize,
 ) -> usize
-    requires { ⌜ (16 * count ≤ length (now places)) × (count ≤ 8192) × (total ≤ 16384) × (i < count) × (12 * past (group (now image) base (placeIn (now places) i)) at ≤ length (now records)) × Indexed (now places) count (now heads) (now links) ⌝ }
-    ensures { λ r. ⌜ Puts (firstIn (now (places .entry)) count total) (group (now (image .entry)) base (placeIn (now (places .entry)) i)) at (now (records .entry)) (now (records .exit)) r ⌝ }
+    requires { ⌜ (16 * e .count ≤ length (now places)) × (e .count ≤ 8192) × (e .total ≤ 16384) × (i < e .count) × (12 * past (group (now image) base (placeIn (now places) i)) at ≤ length (now records)) × Indexed (now places) (e .count) (now heads) (now links) ⌝ }
+    ensures { λ r. ⌜ Puts (firstIn (now (places .entry)) (e .count) (e .total)) (group (now (image .entry)) base (placeIn (now (places .entry)) i)) at (now (records .entry)) (now (records .exit)) r ⌝ }
 {
     let p = address(places, i);
     let f = fetch(image, base, p);
@@ -235,19 +217,7 @@ fn put_group(
                 return put_held(records, at, flow, word, p);
             }
             let n = next(places, i);
-            put_word(
-                places,
-                heads,
-                links,
-                count,
-                total,
-                records,
-                at,
-                flow,
-                word,
-                p,
-                n,
-            )
+            put_word(places, heads, links, e, records, at, flow, word, p, n)
         }
         Fetched::Outside => put_one(records, at, 7, 2, p),
     }
@@ -267,21 +237,11 @@ pub fn put_groups(
     requires { ⌜ (16 * count ≤ length (now places)) × (count ≤ 8192) × (total ≡ needed (now image) base (placesIn (now places) count)) × (12 * total ≤ length (now records)) × Indexed (now places) count (now heads) (now links) ⌝ }
     ensures { λ _. ⌜ numbersOf (now (records .exit)) (3 * total) ≡ recordsNumbers (recordsFrom (now (image .entry)) base (firstIn (now (places .entry)) count total) (placesIn (now (places .entry)) count)) ⌝ }
 {
+    let e = Extent { count, total };
     let mut at: usize = 0;
     let mut i: usize = 0;
     while i < count {
-        at = put_group(
-            image,
-            base,
-            places,
-            heads,
-            links,
-            count,
-            total,
-            records,
-            at,
-            i,
-        );
+        at = put_group(image, base, places, heads, links, e, records, at, i);
         i += 1;
     }
 }

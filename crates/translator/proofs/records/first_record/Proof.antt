@@ -18,14 +18,14 @@ read-number-requires c κs = search needs
 
 returns : tie.Need-returns
 unfolding firstIn
-returns c = rw (← c .before .before .find .ensures, lt-ltb _ _ (c .before .if1 .taken)) (c .read-number .ensures)
+returns c = rw (← c .before .before .before .find .ensures, lt-ltb _ _ (c .before .if1 .taken)) (c .read-number .ensures)
 
 cast-result : tie.Need-cast-result
 cast-result c = search needs
 
 returns-2 : tie.Need-returns-2
 unfolding firstIn
-returns-2 c = rw (← c .before .find .ensures, le-ltb _ _ (c .if1 .left))
+returns-2 c = rw (← c .before .before .before .find .ensures, le-ltb _ _ (c .before .if1 .left))
 
 pub first-record-spec : {M : Type 1} → statement M
 first-record-spec =

@@ -16,13 +16,13 @@ use Rattle.translator.proofs.records.put_groups.Statement.{statement}
 use Rattle.translator.proofs.records.put_groups.Tie as tie
 
 abbrev Inv-loop : tie.InvT-loop
-Inv-loop image base places heads links count total records₀ at₀ i₀ records at i =
+Inv-loop image base places heads links count total records₀ e at₀ i₀ records at i =
     (i ≤ count) × (length records ≡ length records₀) × (at + needed image base (drop i (placesIn places count)) ≡ total)
     × (numbersOf records (3 * at) ++ recordsNumbers (recordsFrom image base (firstIn places count total) (drop i (placesIn places count)))
     ≡ recordsNumbers (recordsFrom image base (firstIn places count total) (placesIn places count)))
 
 abbrev μ-loop : tie.MeasureT-loop
-μ-loop image base places heads links count total records₀ at₀ i₀ records at i = count - i
+μ-loop image base places heads links count total records₀ e at₀ i₀ records at i = count - i
 
 loop-holds : tie.Need-loop-holds Inv-loop μ-loop
 unfolding numbersOf upTo
