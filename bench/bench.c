@@ -27,10 +27,10 @@ struct side {
     double best; /* seconds of the fastest round */
 };
 
-static void begin(const struct core *core, const struct program *program, struct side *side)
+static void begin_side(const struct program *program, struct side *side)
 {
     memset(side->state, 0, sizeof side->state);
-    core->begin(program, side->state);
+    begin(program, side->state);
     first_data(side->data);
     side->best = 1e9;
 }
@@ -47,25 +47,25 @@ static void round_of(run_function *run, const struct program *program, struct si
 }
 
 /* Both sides are still going, with equal states and data. */
-static bool equal(const struct core *core, const struct side *library, const struct side *rival)
+static bool equal(const struct side *library, const struct side *rival)
 {
-    return word_at(rival->state + core->state_length - 8) == 0
-        && memcmp(rival->state, library->state, core->state_length) == 0
+    return word_at(rival->state + core.state_length - 8) == 0
+        && memcmp(rival->state, library->state, core.state_length) == 0
         && memcmp(rival->data, library->data, DATA_LENGTH) == 0;
 }
 
-static bool measure(const struct core *core, int number, int rounds)
+static bool measure(int number, int rounds)
 {
     static struct side library, rival;
     struct loop loop = loop_at(number);
-    struct program program = core->program_of(number, &loop);
-    begin(core, &program, &library);
-    begin(core, &program, &rival);
+    struct program program = program_of(number, &loop);
+    begin_side(&program, &library);
+    begin_side(&program, &rival);
     for (int i = 0; i < rounds; i++) {
-        round_of(core->library, &program, &library);
-        round_of(core->rival, &program, &rival);
+        round_of(library_run, &program, &library);
+        round_of(rival_run, &program, &rival);
     }
-    if (!equal(core, &library, &rival)) {
+    if (!equal(&library, &rival)) {
         printf("%-10s  the two sides differ, or the loop ended\n", loop.name);
         return false;
     }
@@ -73,34 +73,34 @@ static bool measure(const struct core *core, int number, int rounds)
     return true;
 }
 
-static int benchmark(const struct core *core)
+static int benchmark(void)
 {
     bool good = true;
     printf("%s, nanoseconds a step: the best of %d rounds of %d steps on each side, in turn\n",
-           core->name, ROUNDS, STEPS_A_ROUND);
+           core.name, ROUNDS, STEPS_A_ROUND);
     print_heading("loop");
     for (int i = 0; i < LOOPS; i++)
-        good = measure(core, i, ROUNDS) && good;
+        good = measure(i, ROUNDS) && good;
     return good ? EXIT_SUCCESS : EXIT_FAILURE;
 }
 
-static int one_round(const struct core *core, const char *name)
+static int one_round(const char *name)
 {
     for (int i = 0; i < LOOPS; i++)
         if (strcmp(loop_at(i).name, name) == 0)
-            return measure(core, i, 1) ? EXIT_SUCCESS : EXIT_FAILURE;
+            return measure(i, 1) ? EXIT_SUCCESS : EXIT_FAILURE;
     fprintf(stderr, "no loop %s\n", name);
     return 2;
 }
 
-int bench(const struct core *core, int argc, char **argv)
+int main(int argc, char **argv)
 {
     if (argc == 1)
-        return benchmark(core);
+        return benchmark();
     if (argc == 3 && strcmp(argv[1], "--round") == 0)
-        return one_round(core, argv[2]);
+        return one_round(argv[2]);
     if (argc == 3 && strcmp(argv[1], "--check") == 0)
-        return check(core, argv[2]);
+        return check(argv[2]);
     fprintf(stderr, "usage: %s [--round LOOP | --check FILE]\n", argv[0]);
     return 2;
 }

@@ -1,4 +1,4 @@
-/* What the benchmarks of both cores share: each core's functions behind one face, timing, and the check of vectors. */
+/* What the benchmarks of both cores share: one face for either core, timing, and the check of vectors. */
 #ifndef BENCH_H
 #define BENCH_H
 
@@ -22,23 +22,27 @@ typedef struct pijorrel_end run_function(const struct program *program, uint8_t 
 /* The longer of both cores' states. */
 enum { STATE_LIMIT = PIJORREL_OLD_STATE };
 
-struct core {
+/* ---- the core that is measured: bench_old.c and bench_new.c each have all of this, and one of them is linked */
+
+extern const struct core {
     const char *name;
     size_t state_length; /* its last two numbers are the end and what belongs to it */
-    run_function *library, *rival;
-    /* A loop (by number) as a program, and the state that begins it. */
-    struct program (*program_of)(int number, const struct loop *loop);
-    void (*begin)(const struct program *program, uint8_t *state);
-    /* Of a case in a vectors file: its mark, the numbers up to the data base, the areas before the data. */
-    uint32_t mark;
-    void (*take_numbers)(struct reader *reader, struct program *program);
-    void (*take_areas)(struct reader *reader, struct program *program);
-};
+    uint32_t mark;       /* of a case in a vectors file */
+} core;
+
+run_function library_run, rival_run;
+
+/* A loop (by number) as a program, and the state that begins it. */
+struct program program_of(int number, const struct loop *loop);
+void begin(const struct program *program, uint8_t *state);
+
+/* Of a case in a vectors file: the numbers up to the data base, the areas before the data. */
+void take_numbers(struct reader *reader, struct program *program);
+void take_areas(struct reader *reader, struct program *program);
+
+/* ---- check.c */
 
 /* Holds both sides to the cases of a file; an exit status. */
-int check(const struct core *core, const char *path);
-
-/* A benchmark's main. */
-int bench(const struct core *core, int argc, char **argv);
+int check(const char *path);
 
 #endif

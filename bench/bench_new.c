@@ -3,6 +3,8 @@
 #include "new_core.h"
 #include "translations.h"
 
+const struct core core = { .name = "new core", .state_length = PIJORREL_NEW_STATE, .mark = 0x4E455743 };
+
 /* In the order of the loops. */
 static const struct translation {
     const uint8_t *places, *records;
@@ -13,16 +15,16 @@ static const struct translation {
     { mixed_places, mixed_records, sizeof mixed_places, sizeof mixed_records }
 };
 
-static struct pijorrel_end library_run(const struct program *p, uint8_t *state,
-                                       uint8_t *data, size_t data_length, uint16_t count)
+struct pijorrel_end library_run(const struct program *p, uint8_t *state, uint8_t *data, size_t data_length,
+                                uint16_t count)
 {
     return pijorrel_new_run(p->records, p->records_length, p->places, p->places_length, p->base,
                             (uint32_t)p->image_length, p->data_base, state, data, data_length, count);
 }
 
 /* The rival's state is made of the bytes and they of it at each call, as the library does inside. */
-static struct pijorrel_end rival_run(const struct program *p, uint8_t *state,
-                                     uint8_t *data, size_t data_length, uint16_t count)
+struct pijorrel_end rival_run(const struct program *p, uint8_t *state, uint8_t *data, size_t data_length,
+                              uint16_t count)
 {
     struct rival_new_state s = {
         .m = machine_from(state, state + 140), .record = word_at(state + 132), .held = word_at(state + 136)
@@ -35,7 +37,7 @@ static struct pijorrel_end rival_run(const struct program *p, uint8_t *state,
     return s.m.end;
 }
 
-static struct program program_of(int number, const struct loop *loop)
+struct program program_of(int number, const struct loop *loop)
 {
     const struct translation *t = &translations[number];
     return (struct program){
@@ -49,12 +51,12 @@ static struct program program_of(int number, const struct loop *loop)
     };
 }
 
-static void begin(const struct program *p, uint8_t *state)
+void begin(const struct program *p, uint8_t *state)
 {
     pijorrel_new_begin(p->places, p->places_length, p->base, (uint32_t)p->image_length, p->base, state);
 }
 
-static void take_numbers(struct reader *reader, struct program *p)
+void take_numbers(struct reader *reader, struct program *p)
 {
     p->places_length = take_number(reader);
     p->records_length = take_number(reader);
@@ -63,24 +65,8 @@ static void take_numbers(struct reader *reader, struct program *p)
     p->data_base = take_number(reader);
 }
 
-static void take_areas(struct reader *reader, struct program *p)
+void take_areas(struct reader *reader, struct program *p)
 {
     p->places = take_area(reader, p->places_length);
     p->records = take_area(reader, p->records_length);
-}
-
-int main(int argc, char **argv)
-{
-    const struct core new_core = {
-        .name = "new core",
-        .state_length = PIJORREL_NEW_STATE,
-        .library = library_run,
-        .rival = rival_run,
-        .program_of = program_of,
-        .begin = begin,
-        .mark = 0x4E455743,
-        .take_numbers = take_numbers,
-        .take_areas = take_areas
-    };
-    return bench(&new_core, argc, argv);
 }

@@ -2,15 +2,17 @@
 #include "bench.h"
 #include "old_core.h"
 
-static struct pijorrel_end library_run(const struct program *p, uint8_t *state,
-                                       uint8_t *data, size_t data_length, uint16_t count)
+const struct core core = { .name = "old core", .state_length = PIJORREL_OLD_STATE, .mark = 0x4F4C4443 };
+
+struct pijorrel_end library_run(const struct program *p, uint8_t *state, uint8_t *data, size_t data_length,
+                                uint16_t count)
 {
     return pijorrel_old_run(p->image, p->image_length, p->base, p->data_base, state, data, data_length, count);
 }
 
 /* The rival's state is made of the bytes and they of it at each call, as the library does inside. */
-static struct pijorrel_end rival_run(const struct program *p, uint8_t *state,
-                                     uint8_t *data, size_t data_length, uint16_t count)
+struct pijorrel_end rival_run(const struct program *p, uint8_t *state, uint8_t *data, size_t data_length,
+                              uint16_t count)
 {
     struct rival_old_state s = {
         .m = machine_from(state, state + 144),
@@ -26,7 +28,7 @@ static struct pijorrel_end rival_run(const struct program *p, uint8_t *state,
     return s.m.end;
 }
 
-static struct program program_of(int number, const struct loop *loop)
+struct program program_of(int number, const struct loop *loop)
 {
     (void)number;
     return (struct program){
@@ -34,35 +36,19 @@ static struct program program_of(int number, const struct loop *loop)
     };
 }
 
-static void begin(const struct program *p, uint8_t *state)
+void begin(const struct program *p, uint8_t *state)
 {
     pijorrel_old_begin(p->base, state);
 }
 
-static void take_numbers(struct reader *reader, struct program *p)
+void take_numbers(struct reader *reader, struct program *p)
 {
     p->image_length = take_number(reader);
     p->base = take_number(reader);
     p->data_base = take_number(reader);
 }
 
-static void take_areas(struct reader *reader, struct program *p)
+void take_areas(struct reader *reader, struct program *p)
 {
     p->image = take_area(reader, p->image_length);
-}
-
-int main(int argc, char **argv)
-{
-    const struct core old_core = {
-        .name = "old core",
-        .state_length = PIJORREL_OLD_STATE,
-        .library = library_run,
-        .rival = rival_run,
-        .program_of = program_of,
-        .begin = begin,
-        .mark = 0x4F4C4443,
-        .take_numbers = take_numbers,
-        .take_areas = take_areas
-    };
-    return bench(&old_core, argc, argv);
 }

@@ -116,12 +116,11 @@ static bool take_input(struct reader *reader, struct input *in, struct pijorrel_
     return !reader->short_of;
 }
 
-static bool check_case(const void *subject, struct reader *reader, struct agreement *agreement)
+static bool check_case(struct reader *reader, struct agreement *agreement)
 {
     struct input in = { 0 };
     struct output known = { 0 }, out = { 0 };
     bool whole;
-    (void)subject;
     if (!take_input(reader, &in, &known.answer))
         return false;
     whole = make_output(&known, &in) && make_output(&out, &in) && take_output(reader, &known, &in);
@@ -229,7 +228,7 @@ int main(int argc, char **argv)
     if (argc == 3 && strcmp(argv[1], "--round") == 0)
         return one_round(argv[2]);
     if (argc == 3 && strcmp(argv[1], "--check") == 0)
-        return check_file(argv[2], "translator", check_case, NULL);
+        return check_file(argv[2], "translator", check_case);
     fprintf(stderr, "usage: %s [--round SAMPLE | --check FILE]\n", argv[0]);
     return 2;
 }

@@ -12,52 +12,51 @@ struct vector {
     const uint8_t *before, *data, *after, *data_after;
 };
 
-static bool take_vector(const struct core *core, struct reader *reader, struct vector *v)
+static bool take_vector(struct reader *reader, struct vector *v)
 {
     *v = (struct vector){ 0 };
-    if (take_number(reader) != core->mark)
+    if (take_number(reader) != core.mark)
         return false;
-    core->take_numbers(reader, &v->program);
+    take_numbers(reader, &v->program);
     v->data_length = take_number(reader);
     v->count = take_number(reader);
-    v->before = take_area(reader, core->state_length);
-    core->take_areas(reader, &v->program);
+    v->before = take_area(reader, core.state_length);
+    take_areas(reader, &v->program);
     v->data = take_area(reader, v->data_length);
-    v->after = take_area(reader, core->state_length);
+    v->after = take_area(reader, core.state_length);
     v->data_after = take_area(reader, v->data_length);
     return !reader->short_of;
 }
 
 /* A side leaves and answers what the case says; data is room for the case's. */
-static bool agrees(const struct core *core, run_function *run, const struct vector *v, uint8_t *data)
+static bool agrees(run_function *run, const struct vector *v, uint8_t *data)
 {
-    const uint8_t *known = v->after + core->state_length - 8;
+    const uint8_t *known = v->after + core.state_length - 8;
     uint8_t state[STATE_LIMIT];
     struct pijorrel_end end;
-    memcpy(state, v->before, core->state_length);
+    memcpy(state, v->before, core.state_length);
     memcpy(data, v->data, v->data_length);
     end = run(&v->program, state, data, v->data_length, (uint16_t)v->count);
-    return memcmp(state, v->after, core->state_length) == 0 && memcmp(data, v->data_after, v->data_length) == 0
+    return memcmp(state, v->after, core.state_length) == 0 && memcmp(data, v->data_after, v->data_length) == 0
         && end.end == word_at(known) && end.number == word_at(known + 4);
 }
 
-static bool check_case(const void *subject, struct reader *reader, struct agreement *agreement)
+static bool check_case(struct reader *reader, struct agreement *agreement)
 {
-    const struct core *core = subject;
     struct vector v;
     uint8_t *data;
-    if (!take_vector(core, reader, &v))
+    if (!take_vector(reader, &v))
         return false;
     data = malloc((size_t)v.data_length + 1);
     if (!data)
         return false;
-    agreement->library += agrees(core, core->library, &v, data);
-    agreement->rival += agrees(core, core->rival, &v, data);
+    agreement->library += agrees(library_run, &v, data);
+    agreement->rival += agrees(rival_run, &v, data);
     free(data);
     return true;
 }
 
-int check(const struct core *core, const char *path)
+int check(const char *path)
 {
-    return check_file(path, core->name, check_case, core);
+    return check_file(path, core.name, check_case);
 }

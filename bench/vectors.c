@@ -45,16 +45,15 @@ static uint8_t *whole_file(const char *path, size_t *length)
 }
 
 /* Tries all cases; false if the file is damaged. */
-static bool all_cases(struct reader *reader, uint32_t cases, case_function *one, const void *subject,
-                      struct agreement *agreement)
+static bool all_cases(struct reader *reader, uint32_t cases, case_function *one, struct agreement *agreement)
 {
     for (uint32_t i = 0; i < cases; i++)
-        if (!one(subject, reader, agreement))
+        if (!one(reader, agreement))
             return false;
     return reader->at == reader->length;
 }
 
-int check_file(const char *path, const char *name, case_function *one, const void *subject)
+int check_file(const char *path, const char *name, case_function *one)
 {
     struct reader reader = { 0 };
     struct agreement agreement = { 0, 0 };
@@ -67,7 +66,7 @@ int check_file(const char *path, const char *name, case_function *one, const voi
     }
     reader.bytes = bytes;
     cases = take_number(&reader);
-    whole = all_cases(&reader, cases, one, subject, &agreement);
+    whole = all_cases(&reader, cases, one, &agreement);
     free(bytes);
     if (!whole) {
         fprintf(stderr, "%s is not a whole file of %s vectors\n", path, name);

@@ -23,9 +23,9 @@ struct agreement {
 };
 
 /* Takes a case from the file and tries both sides on it; false if the file is damaged. */
-typedef bool case_function(const void *subject, struct reader *reader, struct agreement *agreement);
+typedef bool case_function(struct reader *reader, struct agreement *agreement);
 
-/* Holds both sides of a subject to all cases of a file; an exit status. */
-int check_file(const char *path, const char *name, case_function *one, const void *subject);
+/* Holds both sides to all cases of a file; an exit status. */
+int check_file(const char *path, const char *name, case_function *one);
 
 #endif
