@@ -159,10 +159,7 @@ impl Asked {
     /// The translation, the old core's trail and, of an accepted image, the new core's.
     fn results(&self) -> (Result<Translation, Refusal>, Trail, Option<Trail>) {
         let image_bytes = self.image_bytes();
-        let image = Image {
-            bytes: &image_bytes,
-            base: self.program.base,
-        };
+        let image = Image::at(self.program.base, &image_bytes);
         let outcome = self.outcome(image);
         let new = outcome
             .as_ref()
@@ -199,10 +196,7 @@ impl Asked {
             };
         }
         let image_bytes = self.image_bytes();
-        let image = Image {
-            bytes: &image_bytes,
-            base: program.base,
-        };
+        let image = Image::at(program.base, &image_bytes);
         let plain = program.plain_addresses();
         let address = match self.outcome(image) {
             Ok(_) => random_plain(random, program, &plain),
@@ -270,10 +264,7 @@ mod tests {
         for (number, couple) in Couple::all().into_iter().enumerate() {
             let case = random_case(&mut random, 2 * number as u64 + 1);
             let image_bytes = case.asked.image_bytes();
-            let image = Image {
-                bytes: &image_bytes,
-                base: case.asked.program.base,
-            };
+            let image = Image::at(case.asked.program.base, &image_bytes);
             let met = [case.old.entries[0].address, case.old.nexts[0]]
                 .map(|address| image.word(address).and_then(Transfer::of));
             assert_eq!(met, [Some(couple.first), Some(couple.second)]);

@@ -20,10 +20,7 @@ pub fn pad(case: &mut Vec<u8>, area: &[u8]) {
 pub fn translate_case(call: &TranslateCall) -> Vec<u8> {
     let mut places = vec![0xFF; call.places_length];
     let mut records = vec![0xFF; call.records_length];
-    let image = Image {
-        bytes: &call.image,
-        base: call.base,
-    };
+    let image = Image::at(call.base, &call.image);
     let allowed = translate_call(image, &call.entries, &mut places, &mut records);
     let answer = allowed[0];
     let several = (allowed.len() > 1) as u32;
@@ -69,10 +66,7 @@ pub fn old_run_case(mut call: OldRunCall) -> Vec<u8> {
     case.extend(call.state);
     pad(&mut case, &call.image);
     pad(&mut case, &call.data);
-    let image = Image {
-        bytes: &call.image,
-        base: call.base,
-    };
+    let image = Image::at(call.base, &call.image);
     old_run_call(
         image,
         call.data_base,

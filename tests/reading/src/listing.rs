@@ -11,10 +11,7 @@ pub fn listing(input: &[u8]) -> String {
     if input.len() > 1_024 {
         return "refused detail\n1 1025\n".to_string();
     }
-    let image = Image {
-        bytes: input,
-        base: 0,
-    };
+    let image = Image::at(0, input);
     let outcome = translate(image, &bytes([0]), 512 * 16, 1_024 * 12);
     let translation = match &outcome {
         Err(_) => {

@@ -247,10 +247,7 @@ fn claim(seed: u64, count: u64) -> io::Result<ExitCode> {
     for _ in 0..count {
         let (program, translation) = random_accepted(&mut random);
         let image_bytes = program.image_bytes();
-        let image = Image {
-            bytes: &image_bytes,
-            base: program.base,
-        };
+        let image = Image::at(program.base, &image_bytes);
         let made = made_by_the_rules(image, &program.entries);
         let place_bytes = translation.place_bytes();
         let record_bytes = translation.record_bytes();
@@ -396,10 +393,7 @@ fn listing() -> io::Result<ExitCode> {
 fn translated(base: u32, entries: Vec<u32>) -> io::Result<ExitCode> {
     let mut input = vec![];
     io::stdin().lock().read_to_end(&mut input)?;
-    let image = Image {
-        bytes: &input,
-        base,
-    };
+    let image = Image::at(base, &input);
     let outcome = translate(image, &bytes(entries), 8_192 * 16, 2 * 8_192 * 12);
     print_outcome(&mut io::stdout().lock(), &outcome)?;
     Ok(if outcome.is_ok() {

@@ -15,7 +15,11 @@ pub fn lies_in_image(address: u32, base: u32, length: usize) -> bool {
     address.wrapping_sub(base) as usize + 4 <= length
 }
 
-impl Image<'_> {
+impl<'a> Image<'a> {
+    pub fn at(base: u32, bytes: &'a [u8]) -> Image<'a> {
+        Image { bytes, base }
+    }
+
     pub fn holds(&self, address: u32) -> bool {
         lies_in_image(address, self.base, self.bytes.len())
     }

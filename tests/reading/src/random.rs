@@ -102,20 +102,14 @@ impl Program {
     /// The translation with buffers that are never short.
     pub fn translate(&self) -> Result<Translation, Refusal> {
         let image_bytes = self.image_bytes();
-        let image = Image {
-            bytes: &image_bytes,
-            base: self.base,
-        };
+        let image = Image::at(self.base, &image_bytes);
         translate(image, &self.entry_bytes(), 1 << 24, 1 << 24)
     }
 
     /// The smallest number of places with which the walk does not meet refusal 5.
     fn room_for_the_walk(&self) -> usize {
         let image_bytes = self.image_bytes();
-        let image = Image {
-            bytes: &image_bytes,
-            base: self.base,
-        };
+        let image = Image::at(self.base, &image_bytes);
         (0..)
             .find(|room| {
                 let outcome = walk(image, &self.entries, *room);
@@ -127,10 +121,7 @@ impl Program {
     /// The addresses of all plain places by the rules, lowest first.
     pub fn plain_addresses(&self) -> Vec<u32> {
         let image_bytes = self.image_bytes();
-        let image = Image {
-            bytes: &image_bytes,
-            base: self.base,
-        };
+        let image = Image::at(self.base, &image_bytes);
         let mut addresses: Vec<u32> = made_by_the_rules(image, &self.entries)
             .into_iter()
             .filter_map(|place| match place {

@@ -28,10 +28,7 @@ fn answer(number: u32, first: u64, second: u64) -> Answer {
 
 fn ask(words: &[u32], entries: &[u32], places_length: usize, records_length: usize) -> Answer {
     let image_bytes = bytes(words.iter().copied());
-    let image = Image {
-        bytes: &image_bytes,
-        base: 0,
-    };
+    let image = Image::at(0, &image_bytes);
     let entry_bytes = bytes(entries.iter().copied());
     answers(&translate(
         image,
@@ -48,10 +45,7 @@ fn flags(number: u32) -> Flags {
 /// The old core's trail from address 0 over an image at base 0 without data.
 fn trail_from_0(words: &[u32], machine: Machine, cut: usize) -> Trail {
     let image_bytes = bytes(words.iter().copied());
-    let image = Image {
-        bytes: &image_bytes,
-        base: 0,
-    };
+    let image = Image::at(0, &image_bytes);
     let mut area = Area::lent(0, &mut []);
     old_trail(image, old_core::begin(machine, 0), &mut area, cut)
 }
@@ -63,10 +57,7 @@ fn addresses(trail: &Trail) -> Vec<u32> {
 /// One step of the old core over one word at address 0.
 fn step_word(word: u32, machine: Machine) -> OldState {
     let image_bytes = bytes([word]);
-    let image = Image {
-        bytes: &image_bytes,
-        base: 0,
-    };
+    let image = Image::at(0, &image_bytes);
     let mut state = old_core::begin(machine, 0);
     old_core::step(image, &mut state, &mut Area::lent(0, &mut []));
     state
@@ -106,10 +97,7 @@ fn p2_a_branch_in_a_branch() {
 #[test]
 fn p3_a_branch_over_its_slot() {
     let image_bytes = bytes([0x1080_0002, ADD, TA]);
-    let image = Image {
-        bytes: &image_bytes,
-        base: 0,
-    };
+    let image = Image::at(0, &image_bytes);
     let (places, _) = walk(image, &[0], 100).unwrap();
     assert_eq!(places[1], Place::Plain(4));
 }
@@ -182,10 +170,7 @@ fn limits() {
     assert_eq!(ask(&[TA], &[], LARGE, LARGE), answer(3, 0, 0));
     assert_eq!(ask(&[TA], &[0, 4, 0, 2], LARGE, LARGE), answer(3, 2, 0));
     let image_bytes = bytes([TA]);
-    let image = Image {
-        bytes: &image_bytes,
-        base: 0,
-    };
+    let image = Image::at(0, &image_bytes);
     assert_eq!(
         translate(image, &bytes([0, 4, 0, 2]), LARGE, LARGE),
         Err(Refusal::Entries(vec![2, 4]))
@@ -206,10 +191,7 @@ fn many_places() {
 #[test]
 fn buffers() {
     let image_bytes = bytes(LISTED);
-    let image = Image {
-        bytes: &image_bytes,
-        base: 0,
-    };
+    let image = Image::at(0, &image_bytes);
     let mut places = [0xFF; 3 * 16 + 5];
     let mut records = [0xFF; 4 * 12 + 7];
     let outcome = translate(image, &bytes([0]), places.len(), records.len());
@@ -229,10 +211,7 @@ fn buffers() {
 fn a_landing_without_a_place() {
     // jmpl register 1, constant 0; add; illegal; ta 0
     let image_bytes = bytes([0x81C0_6000, ADD, 0, TA]);
-    let image = Image {
-        bytes: &image_bytes,
-        base: 0,
-    };
+    let image = Image::at(0, &image_bytes);
     let translation = translate(image, &bytes([0]), LARGE, LARGE).unwrap();
     let (places, records) = (translation.place_bytes(), translation.record_bytes());
     let program = Program {
@@ -310,10 +289,7 @@ fn walk_and_rules_agree() {
     for _ in 0..2000 {
         let (program, _) = random_accepted(&mut random);
         let image_bytes = program.image_bytes();
-        let image = Image {
-            bytes: &image_bytes,
-            base: program.base,
-        };
+        let image = Image::at(program.base, &image_bytes);
         let (places, numbers) = walk(image, &program.entries, LARGE).unwrap();
         let made = made_by_the_rules(image, &program.entries);
         assert_eq!(made, places.iter().copied().collect());
@@ -329,10 +305,7 @@ fn the_claim_says_something() {
     for _ in 0..300 {
         let (program, translation) = random_accepted(&mut random);
         let image_bytes = program.image_bytes();
-        let image = Image {
-            bytes: &image_bytes,
-            base: program.base,
-        };
+        let image = Image::at(program.base, &image_bytes);
         let made = made_by_the_rules(image, &program.entries);
         let plain = program.plain_addresses();
         let address = random_plain(&mut random, &program, &plain);

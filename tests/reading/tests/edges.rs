@@ -11,10 +11,7 @@ use reading::translator::{answers, translate};
 fn answers_are_those_by_hand() {
     for (position, edge) in edges().iter().enumerate() {
         let call = &edge.call;
-        let image = Image {
-            bytes: &call.image,
-            base: call.base,
-        };
+        let image = Image::at(call.base, &call.image);
         let outcome = translate(
             image,
             &call.entries,

@@ -96,10 +96,7 @@ fn translate() {
 
         let mut places = vec![0xA5; places_length];
         let mut records = vec![0x5A; records_length];
-        let image = Image {
-            bytes: &image,
-            base,
-        };
+        let image = Image::at(base, &image);
         let allowed = translate_call(image, &entries, &mut places, &mut records);
         let several = number == 3 && second == 1;
         let expected = Answer {
@@ -135,10 +132,7 @@ fn old_core() {
         let expected_state = numbers.state::<OLD_STATE>();
         let expected_data = numbers.area(data_length);
 
-        let image = Image {
-            bytes: &image,
-            base,
-        };
+        let image = Image::at(base, &image);
         let count = u16::try_from(count).unwrap();
         old_run_call(image, data_base, &mut state, &mut data, count);
         compare(&state, &expected_state, &data, &expected_data)
