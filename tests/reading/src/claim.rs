@@ -48,15 +48,29 @@ impl Start {
 
 /// An accepted image, its translation "just the places and records counted", and the places that the
 /// rules make.
-#[derive(Clone, Copy)]
-pub struct Accepted<'a> {
-    pub image: Image<'a>,
-    pub program: Program<'a>,
-    pub made: &'a HashSet<Place>,
+pub struct Accepted {
+    pub image: Vec<u8>,
+    pub base: u32,
+    pub records: Vec<u8>,
+    pub places: Vec<u8>,
+    pub made: HashSet<Place>,
     pub data_base: u32,
 }
 
-impl Accepted<'_> {
+impl Accepted {
+    fn image(&self) -> Image<'_> {
+        Image::at(self.base, &self.image)
+    }
+
+    fn program(&self) -> Program<'_> {
+        Program {
+            records: &self.records,
+            places: &self.places,
+            base: self.base,
+            image_length: self.image.len() as u32,
+        }
+    }
+
     /// "an address has a plain place where the rules under Places make one"
     pub fn has_plain_place(&self, address: u32) -> bool {
         self.made.contains(&Place::Plain(address))
@@ -66,14 +80,14 @@ impl Accepted<'_> {
         let mut data = start.data.clone();
         let mut area = Area::lent(self.data_base, &mut data);
         let state = old_core::begin(start.machine(), start.address);
-        old_trail(self.image, state, &mut area, cut)
+        old_trail(self.image(), state, &mut area, cut)
     }
 
     pub fn new_trail(&self, start: &Start, cut: usize) -> Trail {
         let mut data = start.data.clone();
         let mut area = Area::lent(self.data_base, &mut data);
-        let begun = new_begun(self.program, start.machine(), start.address);
-        new_trail(self.program, begun, &mut area, cut)
+        let begun = new_begun(self.program(), start.machine(), start.address);
+        new_trail(self.program(), begun, &mut area, cut)
     }
 
     /// "where the new core goes by a held address that lies in the image and has no plain place, and the
@@ -82,27 +96,23 @@ impl Accepted<'_> {
     fn unplaced_jump(&self, start: &Start, cut: usize) -> Option<u32> {
         let mut data = start.data.clone();
         let mut area = Area::lent(self.data_base, &mut data);
-        let mut state = new_core::begin(self.program, start.machine(), start.address);
+        let program = self.program();
+        let mut state = new_core::begin(program, start.machine(), start.address);
         let mut stand = 0;
         while state.end == End::Going {
-            if self
-                .program
-                .rows()
-                .any(|row| row.first_record == state.record)
-            {
+            if program.rows().any(|row| row.first_record == state.record) {
                 stand += 1;
             }
             if stand > cut {
                 return None;
             }
-            let by_held = self
-                .program
+            let by_held = program
                 .record(state.record)
                 .is_some_and(|record| record.kind == 6);
-            if by_held && self.image.holds(state.held) && !self.has_plain_place(state.held) {
+            if by_held && self.image().holds(state.held) && !self.has_plain_place(state.held) {
                 return (stand < cut).then_some(state.held);
             }
-            new_core::step(self.program, &mut state, &mut area);
+            new_core::step(program, &mut state, &mut area);
         }
         None
     }
@@ -120,7 +130,7 @@ pub struct Seen {
 /// Whether the claim holds for these two starts, both at addresses with plain places, and this cut, at
 /// least 1. What comes back otherwise says which part fails.
 pub fn check(
-    accepted: Accepted,
+    accepted: &Accepted,
     old_start: &Start,
     new_start: &Start,
     cut: usize,

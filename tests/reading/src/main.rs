@@ -68,13 +68,11 @@ use std::process::ExitCode;
 
 use reading::calls;
 use reading::cases::{random_case, Asked, Malformed};
-use reading::claim::{check, Accepted, Start};
+use reading::claim::{check, Accepted, Seen, Start};
 use reading::couples::Transfer;
 use reading::edges::{edges_file, listings_file};
 use reading::files::{new_run_case, old_run_case, translate_case};
-use reading::new_core;
 use reading::old_core::Image;
-use reading::places::made_by_the_rules;
 use reading::random::{
     other_start, random_accepted, random_new_run_call, random_old_run_call, random_start,
     random_translate_call, Program, Random,
@@ -236,73 +234,94 @@ fn cases(seed: u64, count: u64) -> io::Result<ExitCode> {
 
 const CUTS: [usize; 5] = [1, 2, 3, 8, 40];
 
+/// What the checks of the claim have met.
+#[derive(Default)]
+struct Tally {
+    pairs: u64,
+    entries: u64,
+    unequal_starts: u64,
+    exceptions: u64,
+    closes: BTreeMap<u32, u64>,
+}
+
+impl Tally {
+    fn count(&mut self, seen: &Seen) {
+        self.pairs += 1;
+        self.entries += (seen.old.entries.len() + seen.new.entries.len()) as u64;
+        self.unequal_starts += !seen.first_entries_equal as u64;
+        self.exceptions += seen.exception.is_some() as u64;
+        *self.closes.entry(seen.new.close.0).or_default() += 1;
+    }
+
+    fn print(&self, out: &mut impl Write) -> io::Result<()> {
+        writeln!(out, "pairs of trails {}", self.pairs)?;
+        writeln!(out, "trails {}", 2 * self.pairs)?;
+        writeln!(out, "entries {}", self.entries)?;
+        let unequal = self.unequal_starts;
+        writeln!(out, "pairs with unequal first entries {unequal}")?;
+        writeln!(out, "pairs that met the exception {}", self.exceptions)?;
+        for (end, times) in &self.closes {
+            writeln!(out, "new trails closed with {end}: {times}")?;
+        }
+        Ok(())
+    }
+}
+
+/// The starts of both cores and the cut of one check.
+struct Pair {
+    old: Start,
+    new: Start,
+    cut: usize,
+}
+
+/// From each plain place, at each cut: both cores from one start, and the new one from another start.
+fn random_pairs(random: &mut Random, program: &Program) -> Vec<Pair> {
+    let plain = program.plain_addresses();
+    let mut pairs = vec![];
+    for address in &plain {
+        let old = random_start(random, program, &plain, *address);
+        let other = other_start(random, &old, &plain);
+        for cut in CUTS {
+            for new in [&old, &other] {
+                let (old, new) = (old.clone(), new.clone());
+                pairs.push(Pair { old, new, cut });
+            }
+        }
+    }
+    pairs
+}
+
+fn print_pair(out: &mut impl Write, accepted: &Accepted, pair: &Pair) -> io::Result<()> {
+    line(out, "cut", [pair.cut])?;
+    writeln!(out, "old core's start and trail:")?;
+    print_start(out, &pair.old)?;
+    print_trail(out, "old", &accepted.old_trail(&pair.old, pair.cut))?;
+    writeln!(out, "new core's start and trail:")?;
+    print_start(out, &pair.new)?;
+    print_trail(out, "new", &accepted.new_trail(&pair.new, pair.cut))
+}
+
 fn claim(seed: u64, count: u64) -> io::Result<ExitCode> {
     let mut random = Random::new(seed);
     let mut out = io::stdout().lock();
-    let mut checks = 0u64;
-    let mut entries = 0u64;
-    let mut unequal_starts = 0u64;
-    let mut exceptions = 0u64;
-    let mut closes: BTreeMap<u32, u64> = BTreeMap::new();
+    let mut tally = Tally::default();
     for _ in 0..count {
         let (program, translation) = random_accepted(&mut random);
-        let image_bytes = program.image_bytes();
-        let image = Image::at(program.base, &image_bytes);
-        let made = made_by_the_rules(image, &program.entries);
-        let place_bytes = translation.place_bytes();
-        let record_bytes = translation.record_bytes();
-        let accepted = Accepted {
-            image,
-            program: new_core::Program {
-                records: &record_bytes,
-                places: &place_bytes,
-                base: program.base,
-                image_length: image_bytes.len() as u32,
-            },
-            made: &made,
-            data_base: program.data_base,
-        };
-        let plain = program.plain_addresses();
-        for address in &plain {
-            let start = random_start(&mut random, &program, &plain, *address);
-            let other = other_start(&mut random, &start, &plain);
-            for cut in CUTS {
-                for new_start in [&start, &other] {
-                    match check(accepted, &start, new_start, cut) {
-                        Ok(seen) => {
-                            checks += 1;
-                            entries += seen.old.entries.len() as u64;
-                            entries += seen.new.entries.len() as u64;
-                            unequal_starts += !seen.first_entries_equal as u64;
-                            exceptions += seen.exception.is_some() as u64;
-                            *closes.entry(seen.new.close.0).or_default() += 1;
-                        }
-                        Err(reason) => {
-                            writeln!(out, "violated: {reason}")?;
-                            print_program(&mut out, &program)?;
-                            line(&mut out, "cut", [cut])?;
-                            writeln!(out, "old core's start and trail:")?;
-                            print_start(&mut out, &start)?;
-                            print_trail(&mut out, "old", &accepted.old_trail(&start, cut))?;
-                            writeln!(out, "new core's start and trail:")?;
-                            print_start(&mut out, new_start)?;
-                            print_trail(&mut out, "new", &accepted.new_trail(new_start, cut))?;
-                            return Ok(ExitCode::FAILURE);
-                        }
-                    }
+        let accepted = program.accepted(&translation);
+        for pair in random_pairs(&mut random, &program) {
+            match check(&accepted, &pair.old, &pair.new, pair.cut) {
+                Ok(seen) => tally.count(&seen),
+                Err(reason) => {
+                    writeln!(out, "violated: {reason}")?;
+                    print_program(&mut out, &program)?;
+                    print_pair(&mut out, &accepted, &pair)?;
+                    return Ok(ExitCode::FAILURE);
                 }
             }
         }
     }
     writeln!(out, "images {count}")?;
-    writeln!(out, "pairs of trails {checks}")?;
-    writeln!(out, "trails {}", 2 * checks)?;
-    writeln!(out, "entries {entries}")?;
-    writeln!(out, "pairs with unequal first entries {unequal_starts}")?;
-    writeln!(out, "pairs that met the exception {exceptions}")?;
-    for (end, times) in closes {
-        writeln!(out, "new trails closed with {end}: {times}")?;
-    }
+    tally.print(&mut out)?;
     writeln!(out, "the claim holds of all")?;
     Ok(ExitCode::SUCCESS)
 }

@@ -1,6 +1,6 @@
 //! Random images, entry lists, starts and calls, each determined by a seed.
 
-use crate::claim::Start;
+use crate::claim::{Accepted, Start};
 use crate::new_core::number;
 use crate::old_core::{lies_in_image, Image};
 use crate::places::{made_by_the_rules, walk, Place, Stop};
@@ -104,6 +104,19 @@ impl Program {
         let image_bytes = self.image_bytes();
         let image = Image::at(self.base, &image_bytes);
         translate(image, &self.entry_bytes(), 1 << 24, 1 << 24)
+    }
+
+    /// What the claim is about, with a translation of this program or a wrong one.
+    pub fn accepted(&self, translation: &Translation) -> Accepted {
+        let image = self.image_bytes();
+        Accepted {
+            made: made_by_the_rules(Image::at(self.base, &image), &self.entries),
+            image,
+            base: self.base,
+            records: translation.record_bytes(),
+            places: translation.place_bytes(),
+            data_base: self.data_base,
+        }
     }
 
     /// The smallest number of places with which the walk does not meet refusal 5.

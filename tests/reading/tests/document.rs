@@ -1,6 +1,6 @@
 //! 01's listing and its cases P1 to P11.
 
-use reading::claim::{check, Accepted, Start};
+use reading::claim::{check, Start};
 use reading::listing::listing;
 use reading::machine::{Area, End, Machine};
 use reading::new_core::{self, Program};
@@ -304,9 +304,6 @@ fn the_claim_says_something() {
     let mut violated = [0, 0];
     for _ in 0..300 {
         let (program, translation) = random_accepted(&mut random);
-        let image_bytes = program.image_bytes();
-        let image = Image::at(program.base, &image_bytes);
-        let made = made_by_the_rules(image, &program.entries);
         let plain = program.plain_addresses();
         let address = random_plain(&mut random, &program, &plain);
         let start = random_start(&mut random, &program, &plain, address);
@@ -323,18 +320,8 @@ fn the_claim_says_something() {
             }
         }
         for (position, wrong) in [ending, linking].iter().enumerate() {
-            let accepted = Accepted {
-                image,
-                program: Program {
-                    records: &wrong.record_bytes(),
-                    places: &wrong.place_bytes(),
-                    base: program.base,
-                    image_length: image_bytes.len() as u32,
-                },
-                made: &made,
-                data_base: program.data_base,
-            };
-            violated[position] += check(accepted, &start, &start, 8).is_err() as u32;
+            let accepted = program.accepted(wrong);
+            violated[position] += check(&accepted, &start, &start, 8).is_err() as u32;
         }
     }
     assert!(violated[0] > 100 && violated[1] > 10, "{violated:?}");
