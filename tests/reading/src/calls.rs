@@ -28,9 +28,10 @@ fn random_bytes(random: &mut Random, limit: u32) -> Vec<u8> {
     (0..length).map(|_| random.word() as u8).collect()
 }
 
-fn fill(random: &mut Random, state: &mut [u8]) {
-    for byte in state {
-        *byte = random.word() as u8;
+/// Now and then a state of any bytes.
+fn loosen_state(random: &mut Random, state: &mut [u8]) {
+    if random.chance(10) {
+        state.fill_with(|| random.word() as u8);
     }
 }
 
@@ -95,45 +96,42 @@ fn any_data(random: &mut Random, data: &mut Vec<u8>) {
     }
 }
 
-/// An address for a data register, so that accesses meet the last bytes of the area and the first past it.
-fn near_its_end(random: &mut Random, base: u32, data: &[u8]) -> u32 {
-    let past = base.wrapping_add(data.len() as u32);
-    past.wrapping_sub(random.below(9))
+/// Now and then other data, with an address in data register 12 by which accesses meet the last bytes of the area and
+/// the first past it.
+fn loosen_data(random: &mut Random, base: u32, data: &mut Vec<u8>, state: &mut [u8]) {
+    if random.chance(20) {
+        any_data(random, data);
+        let past = base.wrapping_add(data.len() as u32);
+        let near = past.wrapping_sub(random.below(9));
+        state[4 * 12..4 * 13].copy_from_slice(&near.to_be_bytes());
+    }
 }
 
-/// Counts up to the largest; runs in a circle take all of it.
-fn any_count(random: &mut Random) -> u16 {
-    if random.below(100) == 0 {
-        random.pick(&[65_535, 65_534, 32_768])
-    } else {
-        random.below(300) as u16
+/// Now and then another count, up to the largest; runs in a circle take all of it.
+fn loosen_count(random: &mut Random, count: &mut u16) {
+    if random.chance(10) {
+        *count = if random.below(100) == 0 {
+            random.pick(&[65_535, 65_534, 32_768])
+        } else {
+            random.below(300) as u16
+        };
     }
 }
 
 fn any_old_run_call(random: &mut Random) -> OldRunCall {
     let mut call = random_old_run_call(random);
-    if random.chance(10) {
-        fill(random, &mut call.state);
-    }
+    loosen_state(random, &mut call.state);
     if random.chance(10) {
         call.image = random_bytes(random, 100);
     }
-    if random.chance(20) {
-        any_data(random, &mut call.data);
-        let near = near_its_end(random, call.data_base, &call.data);
-        call.state[4 * 12..4 * 13].copy_from_slice(&near.to_be_bytes());
-    }
-    if random.chance(10) {
-        call.count = any_count(random);
-    }
+    loosen_data(random, call.data_base, &mut call.data, &mut call.state);
+    loosen_count(random, &mut call.count);
     call
 }
 
 fn any_new_run_call(random: &mut Random) -> NewRunCall {
     let mut call = random_new_run_call(random);
-    if random.chance(10) {
-        fill(random, &mut call.state);
-    }
+    loosen_state(random, &mut call.state);
     if random.chance(5) {
         call.places = random_bytes(random, 200);
     }
@@ -143,14 +141,8 @@ fn any_new_run_call(random: &mut Random) -> NewRunCall {
     if random.chance(5) {
         call.records = small_numbers(random);
     }
-    if random.chance(20) {
-        any_data(random, &mut call.data);
-        let near = near_its_end(random, call.data_base, &call.data);
-        call.state[4 * 12..4 * 13].copy_from_slice(&near.to_be_bytes());
-    }
-    if random.chance(10) {
-        call.count = any_count(random);
-    }
+    loosen_data(random, call.data_base, &mut call.data, &mut call.state);
+    loosen_count(random, &mut call.count);
     call
 }
 
