@@ -10,9 +10,11 @@ use crate::old_core::Image;
 use crate::random::{NewRunCall, OldRunCall, TranslateCall};
 use crate::translator::bytes;
 
-pub fn pad(case: &mut Vec<u8>, area: &[u8]) {
-    case.extend(area);
-    case.resize(case.len().div_ceil(4) * 4, 0);
+fn add_areas(case: &mut Vec<u8>, areas: &[&[u8]]) {
+    for area in areas {
+        case.extend(*area);
+        case.resize(case.len().div_ceil(4) * 4, 0);
+    }
 }
 
 /// A call of the translator with this reading's answer. Where several entries are bad, the second number beside
@@ -35,8 +37,7 @@ pub fn translate_case(call: &TranslateCall) -> Vec<u8> {
         answer.first as u32,
         answer.second as u32 + several,
     ]);
-    pad(&mut case, &call.image);
-    pad(&mut case, &call.entries);
+    add_areas(&mut case, &[&call.image, &call.entries]);
     if answer.number == 0 {
         case.extend(&places[..16 * answer.first as usize]);
         case.extend(&records[..12 * answer.second as usize]);
@@ -63,19 +64,11 @@ pub fn old_run_case(mut call: OldRunCall) -> Vec<u8> {
         call.data.len() as u32,
         call.count as u32,
     ]);
-    case.extend(call.state);
-    pad(&mut case, &call.image);
-    pad(&mut case, &call.data);
+    add_areas(&mut case, &[&call.state, &call.image, &call.data]);
     let image = Image::at(call.base, &call.image);
-    old_run_call(
-        image,
-        call.data_base,
-        &mut call.state,
-        &mut call.data,
-        call.count,
-    );
-    case.extend(call.state);
-    pad(&mut case, &call.data);
+    let (state, data) = (&mut call.state, &mut call.data);
+    old_run_call(image, call.data_base, state, data, call.count);
+    add_areas(&mut case, &[state, data]);
     case
 }
 
@@ -88,8 +81,7 @@ pub fn new_begin_case(mut call: NewRunCall, address: u32) -> Vec<u8> {
         call.image_length,
         address,
     ]);
-    case.extend(call.state);
-    pad(&mut case, &call.places);
+    add_areas(&mut case, &[&call.state, &call.places]);
     let program = Program {
         records: &[],
         places: &call.places,
@@ -112,25 +104,19 @@ pub fn new_run_case(mut call: NewRunCall) -> Vec<u8> {
         call.data.len() as u32,
         call.count as u32,
     ]);
-    case.extend(call.state);
-    pad(&mut case, &call.places);
-    pad(&mut case, &call.records);
-    pad(&mut case, &call.data);
+    add_areas(
+        &mut case,
+        &[&call.state, &call.places, &call.records, &call.data],
+    );
     let program = Program {
         records: &call.records,
         places: &call.places,
         base: call.base,
         image_length: call.image_length,
     };
-    new_run_call(
-        program,
-        call.data_base,
-        &mut call.state,
-        &mut call.data,
-        call.count,
-    );
-    case.extend(call.state);
-    pad(&mut case, &call.data);
+    let (state, data) = (&mut call.state, &mut call.data);
+    new_run_call(program, call.data_base, state, data, call.count);
+    add_areas(&mut case, &[state, data]);
     case
 }
 
@@ -138,7 +124,6 @@ pub fn new_run_case(mut call: NewRunCall) -> Vec<u8> {
 pub fn listing_case(input: &[u8]) -> Vec<u8> {
     let text = listing(input);
     let mut case = bytes([0x4C49_5354, input.len() as u32, text.len() as u32]);
-    pad(&mut case, input);
-    pad(&mut case, text.as_bytes());
+    add_areas(&mut case, &[input, text.as_bytes()]);
     case
 }
