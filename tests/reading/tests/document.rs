@@ -345,6 +345,19 @@ fn state_bytes() {
     assert_eq!(encode_new(&decode_new(&ended)), ended);
 }
 
+/// The end and the record that a run over these records, all other things 0, comes to.
+fn run_from_0(records: &[u32]) -> (End, u32) {
+    let program = Program {
+        records: &bytes(records.iter().copied()),
+        places: &[],
+        base: 0,
+        image_length: 0,
+    };
+    let mut state = decode_new(&[0; NEW_STATE]);
+    new_core::run(program, &mut state, &mut Area::lent(0, &mut []), 9);
+    (state.end, state.record)
+}
+
 /// Every end 7 that 01 names, with the record number and nothing else changed.
 #[test]
 fn bad_records() {
@@ -363,29 +376,11 @@ fn bad_records() {
         [7, 1, 0],
         [7, 4, 0],
     ] {
-        let records = bytes([[5, 1, 0], record].concat());
-        let program = Program {
-            records: &records,
-            places: &[],
-            base: 0,
-            image_length: 0,
-        };
-        let mut state = decode_new(&[0; NEW_STATE]);
-        new_core::run(program, &mut state, &mut Area::lent(0, &mut []), 9);
-        assert_eq!(state.end, End::BadRecord(1), "{record:?}");
-        assert_eq!(state.record, 1);
+        let stands = run_from_0(&[[5, 1, 0], record].concat());
+        assert_eq!(stands, (End::BadRecord(1), 1), "{record:?}");
     }
     // bn without annul is a word that kind 1 does.
-    let records = bytes([1, 0x0080_0000, 0]);
-    let program = Program {
-        records: &records,
-        places: &[],
-        base: 0,
-        image_length: 0,
-    };
-    let mut state = decode_new(&[0; NEW_STATE]);
-    new_core::run(program, &mut state, &mut Area::lent(0, &mut []), 9);
-    assert_eq!(state.end, End::BadRecord(1));
+    assert_eq!(run_from_0(&[1, 0x0080_0000, 0]), (End::BadRecord(1), 1));
 }
 
 /// A start shows register 0 as 0 and the low four flag bits.
