@@ -29,20 +29,24 @@ struct area {
     size_t length;
 };
 
+/* All that the call at hand took. */
+static void *rooms[16];
+static size_t rooms_taken;
+
 static void *room(size_t length)
 {
     void *bytes = malloc(length);
-    if (!bytes && length > 0) {
+    if ((!bytes && length > 0) || rooms_taken == sizeof rooms / sizeof *rooms) {
         fprintf(stderr, "no memory\n");
         exit(2);
     }
-    return bytes;
+    return rooms[rooms_taken++] = bytes;
 }
 
-static void give_back(struct area *area)
+static void give_back_rooms(void)
 {
-    free(area->block);
-    free(area->kept);
+    while (rooms_taken > 0)
+        free(rooms[--rooms_taken]);
 }
 
 static void take(void *bytes, size_t length)
@@ -63,6 +67,12 @@ static uint32_t take_number(void)
     uint8_t bytes[4];
     take(bytes, sizeof bytes);
     return number_at(bytes);
+}
+
+static void take_numbers(uint32_t *numbers, int count)
+{
+    for (int i = 0; i < count; i++)
+        numbers[i] = take_number();
 }
 
 /* Guards around bytes that are none of the answer, so that one left unwritten shows; without guards, bytes that a
@@ -146,20 +156,15 @@ static bool answers_so(const struct pijorrel_answer *a, const uint32_t *known, c
 
 static bool translate(void)
 {
-    uint32_t n[8];
-    for (int i = 0; i < 8; i++)
-        n[i] = take_number(); /* image, base, entries, places, records; the answer */
+    uint32_t n[8]; /* image, base, entries, places, records; the answer */
+    take_numbers(n, 8);
     struct area image = take_area(n[0]), entries = take_area(n[2]), places = lend(n[3]), records = lend(n[4]);
     struct area known_places = take_area(n[5] ? 0 : (size_t)16 * n[6]);
     struct area known_records = take_area(n[5] ? 0 : (size_t)12 * n[7]);
     struct pijorrel_answer a = pijorrel_translate(image.bytes, image.length, n[1], entries.bytes, entries.length,
                                                   places.bytes, places.length, records.bytes, records.length);
-    bool equal = answers_so(&a, n + 5, &entries, n[1], image.length) && untouched(&image) && untouched(&entries)
+    return answers_so(&a, n + 5, &entries, n[1], image.length) && untouched(&image) && untouched(&entries)
         && holds_padded(&places, &known_places) && holds_padded(&records, &known_records);
-    struct area *areas[] = { &image, &entries, &places, &records, &known_places, &known_records };
-    for (size_t i = 0; i < sizeof areas / sizeof *areas; i++)
-        give_back(areas[i]);
-    return equal;
 }
 
 static bool old_begin(void)
@@ -167,60 +172,42 @@ static bool old_begin(void)
     uint32_t address = take_number();
     struct area state = take_area(PIJORREL_OLD_STATE), known = take_area(PIJORREL_OLD_STATE);
     pijorrel_old_begin(address, state.bytes);
-    bool equal = holds(&state, known.bytes);
-    give_back(&state);
-    give_back(&known);
-    return equal;
+    return holds(&state, known.bytes);
 }
 
 static bool old_run(void)
 {
-    uint32_t n[5];
-    for (int i = 0; i < 5; i++)
-        n[i] = take_number(); /* image, base, data base, data, count */
+    uint32_t n[5]; /* image, base, data base, data, count */
+    take_numbers(n, 5);
     struct area state = take_area(PIJORREL_OLD_STATE), image = take_area(n[0]), data = take_area(n[3]);
     struct area known = take_area(PIJORREL_OLD_STATE), known_data = take_area(n[3]);
     struct pijorrel_end end = pijorrel_old_run(image.bytes, image.length, n[1], n[2], state.bytes, data.bytes,
                                                data.length, (uint16_t)n[4]);
-    bool equal = ends_so(&end, &known) && untouched(&image) && holds(&state, known.bytes)
+    return ends_so(&end, &known) && untouched(&image) && holds(&state, known.bytes)
         && holds(&data, known_data.bytes);
-    struct area *areas[] = { &state, &image, &data, &known, &known_data };
-    for (size_t i = 0; i < sizeof areas / sizeof *areas; i++)
-        give_back(areas[i]);
-    return equal;
 }
 
 static bool new_begin(void)
 {
-    uint32_t n[4];
-    for (int i = 0; i < 4; i++)
-        n[i] = take_number(); /* places, base, image length, address */
+    uint32_t n[4]; /* places, base, image length, address */
+    take_numbers(n, 4);
     struct area state = take_area(PIJORREL_NEW_STATE), places = take_area(n[0]);
     struct area known = take_area(PIJORREL_NEW_STATE);
     struct pijorrel_end end = pijorrel_new_begin(places.bytes, places.length, n[1], n[2], n[3], state.bytes);
-    bool equal = ends_so(&end, &known) && untouched(&places) && holds(&state, known.bytes);
-    give_back(&state);
-    give_back(&places);
-    give_back(&known);
-    return equal;
+    return ends_so(&end, &known) && untouched(&places) && holds(&state, known.bytes);
 }
 
 static bool new_run(void)
 {
-    uint32_t n[7];
-    for (int i = 0; i < 7; i++)
-        n[i] = take_number(); /* places, records, base, image length, data base, data, count */
+    uint32_t n[7]; /* places, records, base, image length, data base, data, count */
+    take_numbers(n, 7);
     struct area state = take_area(PIJORREL_NEW_STATE), places = take_area(n[0]), records = take_area(n[1]);
     struct area data = take_area(n[5]), known = take_area(PIJORREL_NEW_STATE), known_data = take_area(n[5]);
     struct pijorrel_end end =
         pijorrel_new_run(records.bytes, records.length, places.bytes, places.length, n[2], n[3], n[4], state.bytes,
                          data.bytes, data.length, (uint16_t)n[6]);
-    bool equal = ends_so(&end, &known) && untouched(&places) && untouched(&records) && holds(&state, known.bytes)
+    return ends_so(&end, &known) && untouched(&places) && untouched(&records) && holds(&state, known.bytes)
         && holds(&data, known_data.bytes);
-    struct area *areas[] = { &state, &places, &records, &data, &known, &known_data };
-    for (size_t i = 0; i < sizeof areas / sizeof *areas; i++)
-        give_back(areas[i]);
-    return equal;
 }
 
 static const struct {
@@ -260,6 +247,7 @@ int main(int count, char **words)
     for (uint32_t k = 0; k < cases; k++) {
         int function = function_of(take_number());
         bool same = functions[function].call();
+        give_back_rooms();
         made[function]++;
         equal += same;
         if (!same)
