@@ -95,8 +95,8 @@ static void compare(const struct program *program, const struct start *start, in
 {
     static struct trail old, new;
     const char *what;
-    old_trail(program, start, cut, &old);
-    new_trail(program, start, cut, &new);
+    trail_of(begin_old, program, start, cut, &old);
+    trail_of(begin_new, program, start, cut, &new);
     what = difference(program, start, &old, &new);
     seen.pairs++;
     seen.ends[new.end < 8 ? new.end : 7]++;

@@ -27,29 +27,15 @@ static void read_trail(struct walk *walk, int cut, struct trail *trail)
     trail->number = walk->number;
 }
 
-static void set_out(struct walk *walk, const struct program *program, const struct start *start, uint8_t *data)
+void trail_of(begin_function *begin, const struct program *program, const struct start *start, int cut,
+              struct trail *trail)
 {
-    *walk = (struct walk){ .program = program, .data_base = start->data_base, .data = data,
-                           .data_length = start->data_length };
-    memcpy(walk->state, start->machine, REGISTERS_AND_FLAGS);
+    uint8_t data[DATA_ROOM];
+    struct walk walk = { .program = program, .data_base = start->data_base, .data = data,
+                         .data_length = start->data_length };
+    memcpy(walk.state, start->machine, REGISTERS_AND_FLAGS);
     memcpy(data, start->data, DATA_ROOM);
-}
-
-void old_trail(const struct program *program, const struct start *start, int cut, struct trail *trail)
-{
-    struct walk walk;
-    uint8_t data[DATA_ROOM];
-    set_out(&walk, program, start, data);
-    begin_old(&walk, start->address);
-    read_trail(&walk, cut, trail);
-}
-
-void new_trail(const struct program *program, const struct start *start, int cut, struct trail *trail)
-{
-    struct walk walk;
-    uint8_t data[DATA_ROOM];
-    set_out(&walk, program, start, data);
-    begin_new(&walk, start->address);
+    begin(&walk, start->address);
     read_trail(&walk, cut, trail);
 }
 

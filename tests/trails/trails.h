@@ -26,9 +26,11 @@ struct trail {
     uint32_t end, number;
 };
 
-/* The trails of both cores, cut at 1 to 40 entries. */
-void old_trail(const struct program *program, const struct start *start, int cut, struct trail *trail);
-void new_trail(const struct program *program, const struct start *start, int cut, struct trail *trail);
+typedef void begin_function(struct walk *walk, uint32_t address);
+
+/* The trail of the core that begin_old or begin_new begins, cut at 1 to 40 entries. */
+void trail_of(begin_function *begin, const struct program *program, const struct start *start, int cut,
+              struct trail *trail);
 
 /* What demand 3 says of these two trails and does not hold, or NULL. */
 const char *difference(const struct program *program, const struct start *start, const struct trail *old,
