@@ -1,17 +1,11 @@
-/* Measures the library's side of a core against the rival's.
- *
- *   bench_CORE                times three loops on both sides
- *   bench_CORE --round LOOP   one round of one loop, to count instructions in
- *   bench_CORE --check FILE   holds both sides to the cases of a vectors file
- *
- * The exit status is 0 if both sides agree throughout.
- */
+/* Measures the library's side of a core against the rival's, on three loops. */
 #include "bench.h"
 
 #include <stdio.h>
 #include <stdlib.h>
 #include <string.h>
 
+#include "main.h"
 #include "numbers.h"
 #include "timing.h"
 
@@ -73,7 +67,7 @@ static bool measure(int number, int rounds)
     return true;
 }
 
-static int benchmark(void)
+int benchmark(void)
 {
     bool good = true;
     printf("%s, nanoseconds a step: the best of %d rounds of %d steps on each side, in turn\n",
@@ -84,23 +78,11 @@ static int benchmark(void)
     return good ? EXIT_SUCCESS : EXIT_FAILURE;
 }
 
-static int one_round(const char *name)
+int one_round(const char *name)
 {
     for (int i = 0; i < LOOPS; i++)
         if (strcmp(loop_at(i).name, name) == 0)
             return measure(i, 1) ? EXIT_SUCCESS : EXIT_FAILURE;
     fprintf(stderr, "no loop %s\n", name);
-    return 2;
-}
-
-int main(int argc, char **argv)
-{
-    if (argc == 1)
-        return benchmark();
-    if (argc == 3 && strcmp(argv[1], "--round") == 0)
-        return one_round(argv[2]);
-    if (argc == 3 && strcmp(argv[1], "--check") == 0)
-        return check(argv[2]);
-    fprintf(stderr, "usage: %s [--round LOOP | --check FILE]\n", argv[0]);
     return 2;
 }

@@ -1,4 +1,5 @@
-/* What the benchmarks of both cores share: one face for either core, timing, and the check of vectors. */
+/* One face for either core, by which bench.c measures it and check.c holds it to vectors: bench_old.c and bench_new.c
+ * each have all that is declared here, and one of them is linked. */
 #ifndef BENCH_H
 #define BENCH_H
 
@@ -22,8 +23,6 @@ typedef struct pijorrel_end run_function(const struct program *program, uint8_t 
 /* The longer of both cores' states. */
 enum { STATE_LIMIT = PIJORREL_OLD_STATE };
 
-/* ---- the core that is measured: bench_old.c and bench_new.c each have all of this, and one of them is linked */
-
 extern const struct core {
     const char *name;
     size_t state_length; /* its last two numbers are the end and what belongs to it */
@@ -39,10 +38,5 @@ void begin(const struct program *program, uint8_t *state);
 /* Of a case in a vectors file: the numbers up to the data base, the areas before the data. */
 void take_numbers(struct reader *reader, struct program *program);
 void take_areas(struct reader *reader, struct program *program);
-
-/* ---- check.c */
-
-/* Holds both sides to the cases of a file; an exit status. */
-int check(const char *path);
 
 #endif

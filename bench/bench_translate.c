@@ -1,17 +1,11 @@
-/* The translator's benchmark: the library's pijorrel_translate beside a plain C translator with the same index.
- *
- *   bench_translate                  times all samples on both sides
- *   bench_translate --round SAMPLE   one round of one sample, to count instructions in
- *   bench_translate --check FILE     holds both sides to the cases of a vectors file
- *
- * The exit status is 0 if both sides agree throughout.
- */
+/* The translator's benchmark: the library's pijorrel_translate beside a plain C translator with the same index. */
 #include <stdbool.h>
 #include <stdio.h>
 #include <stdlib.h>
 #include <string.h>
 
 #include "document.h"
+#include "main.h"
 #include "pijorrel.h"
 #include "samples.h"
 #include "timing.h"
@@ -133,6 +127,11 @@ static bool check_case(struct reader *reader, struct agreement *agreement)
     return whole;
 }
 
+int check(const char *path)
+{
+    return check_file(path, "translator", check_case);
+}
+
 /* ---- the measurement */
 
 /* Translates the images of a sample, one after another. */
@@ -195,7 +194,7 @@ static bool measure(const struct sample *sample, int rounds)
     return true;
 }
 
-static int benchmark(void)
+int benchmark(void)
 {
     static struct sample sample;
     bool good = true;
@@ -209,7 +208,7 @@ static int benchmark(void)
     return good ? EXIT_SUCCESS : EXIT_FAILURE;
 }
 
-static int one_round(const char *name)
+int one_round(const char *name)
 {
     static struct sample sample;
     for (int i = 0; i < SAMPLES; i++) {
@@ -218,17 +217,5 @@ static int one_round(const char *name)
             return measure(&sample, 1) ? EXIT_SUCCESS : EXIT_FAILURE;
     }
     fprintf(stderr, "no sample %s\n", name);
-    return 2;
-}
-
-int main(int argc, char **argv)
-{
-    if (argc == 1)
-        return benchmark();
-    if (argc == 3 && strcmp(argv[1], "--round") == 0)
-        return one_round(argv[2]);
-    if (argc == 3 && strcmp(argv[1], "--check") == 0)
-        return check_file(argv[2], "translator", check_case);
-    fprintf(stderr, "usage: %s [--round SAMPLE | --check FILE]\n", argv[0]);
     return 2;
 }
