@@ -1,7 +1,8 @@
 /* Whole processes, from their start to their end, beside qemu-sparc: each side reads the same file, runs the same
  * program and writes out its data, and what all sides write is compared before anything is measured.
  *
- *   bench_whole SIDE QEMU FOLDER   the paths of whole_side and qemu-sparc; the programs' files go into FOLDER
+ *   bench_whole SIDE FOLDER [QEMU]   the paths of whole_side and qemu-sparc; the programs' files go into FOLDER;
+ *                                    without QEMU the other sides are compared, and nothing is measured
  *
  * The exit status is 0 if all sides agree.
  */
@@ -76,13 +77,14 @@ static bool take_data(const struct program *p, int side, uint8_t *data)
     return good;
 }
 
-/* Every side, QEMU being the first asked, leaves the same data and registers. */
-static bool equal(const struct program *p)
+/* Every side up to the last one, which is the first asked, leaves the same data and registers. */
+static bool equal(const struct program *p, int last)
 {
     uint8_t data[SIDES][WHOLE_DATA];
-    for (int i = QEMU; i >= 0; i--) {
-        if (!take_data(p, i, data[i]) || memcmp(data[i], data[QEMU], WHOLE_DATA) != 0) {
-            printf("%s: %s fails, or leaves other data or registers than QEMU\n", p->whole.name, kinds[i].name);
+    for (int i = last; i >= 0; i--) {
+        if (!take_data(p, i, data[i]) || memcmp(data[i], data[last], WHOLE_DATA) != 0) {
+            printf("%s: %s fails, or leaves other data or registers than %s\n", p->whole.name, kinds[i].name,
+                   kinds[last].name);
             return false;
         }
     }
@@ -98,17 +100,18 @@ static void put_command(struct side *side, char *first, char *second, char *thir
 
 static bool prepare(struct program *p, int number, char **paths)
 {
+    char *side = paths[0], *folder = paths[1], *qemu = paths[2];
     p->whole = whole_at(number);
-    snprintf(p->file, sizeof p->file, "%s/%s.elf", paths[2], p->whole.name);
-    snprintf(p->output, sizeof p->output, "%s/%s.output", paths[2], p->whole.name);
+    snprintf(p->file, sizeof p->file, "%s/%s.elf", folder, p->whole.name);
+    snprintf(p->output, sizeof p->output, "%s/%s.output", folder, p->whole.name);
     for (int i = 0; i < QEMU; i++)
-        put_command(&p->sides[i], paths[0], kinds[i].word, p->file);
-    put_command(&p->sides[QEMU], paths[1], p->file, NULL);
+        put_command(&p->sides[i], side, kinds[i].word, p->file);
+    put_command(&p->sides[QEMU], qemu, p->file, NULL);
     if (!write_whole(&p->whole, p->file)) {
         perror(p->file);
         return false;
     }
-    return count_steps(p, number) && equal(p);
+    return count_steps(p, number) && equal(p, qemu ? QEMU : QEMU - 1);
 }
 
 /* ---- measuring */
@@ -157,16 +160,8 @@ static void print_sides(struct program *p)
     }
 }
 
-int main(int argc, char **argv)
+static int measure(struct program *programs)
 {
-    static struct program programs[WHOLE_PROGRAMS];
-    if (argc != 4) {
-        fprintf(stderr, "usage: %s SIDE QEMU FOLDER\n", argv[0]);
-        return 2;
-    }
-    for (int i = 0; i < WHOLE_PROGRAMS; i++)
-        if (!prepare(&programs[i], i, argv + 1))
-            return EXIT_FAILURE;
     printf("\nwhole processes, milliseconds from start to end: %d rounds of every side, in turn\n"
            "%-10s  %-23s  %6s  %6s  %9s  %11s\n",
            ROUNDS, "program", "side", "best", "median", "best/QEMU", "median/QEMU");
@@ -175,5 +170,21 @@ int main(int argc, char **argv)
             return EXIT_FAILURE;
         print_sides(&programs[i]);
     }
+    return EXIT_SUCCESS;
+}
+
+int main(int argc, char **argv)
+{
+    static struct program programs[WHOLE_PROGRAMS];
+    if (argc != 3 && argc != 4) {
+        fprintf(stderr, "usage: %s SIDE FOLDER [QEMU]\n", argv[0]);
+        return 2;
+    }
+    for (int i = 0; i < WHOLE_PROGRAMS; i++)
+        if (!prepare(&programs[i], i, argv + 1))
+            return EXIT_FAILURE;
+    if (argc == 4)
+        return measure(programs);
+    printf("whole programs: of all %d every side leaves the same data and registers\n", WHOLE_PROGRAMS);
     return EXIT_SUCCESS;
 }
