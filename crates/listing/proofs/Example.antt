@@ -5,7 +5,7 @@ use Rattle.model.specs.OldCore.{inImage, wordIn, transferOf, target}
 use Rattle.model.specs.Places.{kindOf, nextOf, placeAt, samePlace, member, whichOf, biccNames, names, namesAt, followers, mayBeHeldAt, mayBeHeld, idleBicc, allowed, plains}
 use Rattle.model.specs.Walk.{grow, grown, tested, handle, walk, placesOf}
 use Rattle.model.specs.Records.{numbersIn, biccGroup, groupOf, heldGroupOf, groupAt, heldGroupAt, group, past, numbered, put, first, rowsFrom, recordsFrom, rowsOf, recordsOf, tableNumbers, recordNumbers, recordsNumbers}
-use Rattle.model.specs.Translation.{answerNumbers, badLength, badCount, badEntry, anyBad, placeRoom, filled, refusal, acceptance, fromWalk, translation}
+use Rattle.model.specs.Translation.{badLength, badCount, badEntry, anyBad, placeRoom, filled, refusal, acceptance, fromWalk, translation}
 use Rattle.listing.specs.Text.{decimalBy, decimal, separator, lineOf}
 use Rattle.listing.specs.Listing.{placeLines, recordLines, tables, refusalText, answerText, listingOf}
 use mathlib.Core.Path.{_≡_, refl}

@@ -1,6 +1,6 @@
 -- Laws of text put into a buffer, piece by piece.
 use lib.Seq.{drop-drop, take-at, length-take-le, drop-append-add, set-split}
-use lib.ListN.{length, take, drop, set, length-append, length-take, length-drop, take-append-drop}
+use lib.ListN.{length, take, drop, set, length-append, take-append-drop}
 use lib.Dec.{T}
 use native.Mathlib.Nat.{add-zero}
 use native.Mathlib.Numerals.{add-one}
@@ -30,10 +30,6 @@ inserted-more out at a b h =
     let d : drop (at + length a + length b) (p ++ q) ≡ drop (at + (length a + length b)) out =
     (rw n at (drop-append-add p q (length b))) ∙ drop-drop (length b) (at + length a) out ∙ ap (λ (j : ℕ). drop j out) k in
     rw (t, d, length-append a b) (simp append-assoc)
-
-pub length-inserted : (out : List ℕ) (at : ℕ) (text : List ℕ) → at + length text ≤ length out → length (inserted out at text) ≡ length out
-unfolding inserted
-length-inserted out at text h = simp (length-append, length-take, length-drop) (omega arith)
 
 -- a text and another behind it
 pub written-more : {out out1 out2 a b : List ℕ} {at m n k r : ℕ} → at ≤ length out → Written out at a m out1 k → Written out1 k b n out2 r

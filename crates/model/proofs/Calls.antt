@@ -1,5 +1,5 @@
 -- Both cores' states as bytes: each state comes back from its bytes, any bytes are a sound state's, and the bytes show what the state shows.
-use Prim.Native.Nat.{ℕ, zero, suc, _+_, _^_, _<_}
+use Prim.Native.Nat.{ℕ, zero, suc, _^_, _<_}
 use native.Mathlib.Omega.{arith}
 use mathlib.Core.Path.{_≡_, refl}
 use mathlib.Core.Bool.{Bool, true, false}

@@ -3,11 +3,11 @@ use Prim.Native.Nat.{ℕ, suc, _*_, _≤_, _<_}
 use mathlib.Core.Path.{_≡_}
 use mathlib.Core.Logic.{_↔_}
 use mathlib.Core.Bool.{Bool, true}
-use mathlib.Core.List.{List, [], _∷_}
+use mathlib.Core.List.{List}
 use mathlib.Core.Option.{some}
 use lib.ListN.{getElem?, length, take, getD}
 use Rattle.numbers.specs.Number.{Below}
-use Rattle.machine.specs.Ends.{Ending, ending, State, state, live}
+use Rattle.machine.specs.Ends.{ending, State, state, live}
 use Rattle.machine.specs.Effect.{machine}
 use Rattle.model.specs.declared.Answer.the-variants.{Accepted}
 use Rattle.model.specs.Run.{run}

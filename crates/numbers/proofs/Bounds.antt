@@ -3,7 +3,7 @@ use Prim.Native.Nat.{ℕ, zero, suc, _+_, _-_, _/_, _%_, _^_, _≤_, _<_}
 use mathlib.Core.List.{List, [], _∷_, _++_}
 use native.Mathlib.Omega.{arith}
 use lib.Dec.{ltb}
-use lib.ListN.{getD, set, take, replicate}
+use lib.ListN.{getD, set, take}
 use Rattle.numbers.specs.Number.{Below, plus, minus, signed, numberAt, putNumber, upTo, bytesOf}
 use Rattle.numbers.proofs.Choice.{either}
 
@@ -30,10 +30,6 @@ pub below-up : (n : ℕ) (f : ℕ → ℕ) (k : ℕ) → ((i : ℕ) → f i < n)
 unfolding upTo
 below-up n f zero h = tt
 below-up n f (suc k) h = below-append n (upTo f k) (f k ∷ []) (below-up n f k h) (h k, tt)
-
-pub below-zeros : (n k : ℕ) → 0 < n → Below n (replicate k 0)
-below-zeros n zero h = tt
-below-zeros n (suc k) h = (h, below-zeros n k h)
 
 pub below-bytes : (vs : List ℕ) → Below 256 (bytesOf vs)
 unfolding bytesOf

@@ -1,18 +1,11 @@
 -- Laws of choice by a test and by a key.
 use Prim.Native.Nat.{ℕ}
-use mathlib.Core.Path.{_≡_, refl, sym, ap}
+use mathlib.Core.Path.{_≡_, refl}
 use mathlib.Core.Bool.{Bool, true, false, false≢true}
 use mathlib.Core.List.{List, [], _∷_}
 use lib.Dec.{eqb}
 use borrow.Author.Tests.{ne-eqb, eqb-true}
 use Rattle.numbers.specs.Choice.{pick, find}
-
--- which of two a test picks
-pub picks-first : {A : Type 0} (t : Bool) (a b : A) → t ≡ true → pick t a b ≡ a
-picks-first t a b e = ap (λ (k : Bool). pick k a b) e
-
-pub picks-second : {A : Type 0} (t : Bool) (a b : A) → t ≡ false → pick t a b ≡ b
-picks-second t a b e = ap (λ (k : Bool). pick k a b) e
 
 -- one of two by a test, from what the test says
 pub by-test : {A : Type 0} (t : Bool) (r a b : A) → (t ≡ true → r ≡ a) → (t ≡ false → r ≡ b) → r ≡ pick t a b
@@ -23,12 +16,6 @@ by-test false r a b f g = g refl
 pub either : {A : Type 0} (P : A → Type 0) (t : Bool) (a b : A) → P a → P b → P (pick t a b)
 either P true a b p q = p
 either P false a b p q = q
-
--- two tests that follow from each other are one
-pub same-test : (a b : Bool) → (a ≡ true → b ≡ true) → (b ≡ true → a ≡ true) → a ≡ b
-same-test true b f g = sym (f refl)
-same-test false true f g = g refl
-same-test false false f g = refl
 
 -- what a match on k knows in its last arm: U, and that k is no row's key
 abbrev pub Misses : {A : Type 0} → Type 0 → List (ℕ × A) → ℕ → Type 0

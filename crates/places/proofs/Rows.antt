@@ -1,5 +1,5 @@
 -- Laws of the place table: the numbers of a place, a row that was put, and the places of a table with a row more.
-use Rattle.numbers.proofs.Lists.{length-up, get-up}
+use Rattle.numbers.proofs.Lists.{length-up}
 use Rattle.numbers.proofs.Number.{length-put}
 use Rattle.numbers.proofs.Choice.{either}
 use Rattle.numbers.proofs.Areas.{number-put, number-before}
@@ -10,7 +10,7 @@ use Rattle.model.specs.declared.Place.the-variants.{Pair, Held}
 use Rattle.model.specs.declared.Place.{Place}
 use Rattle.model.specs.Places.{plain, kindOf, nextOf, placeAt, samePlace}
 use borrow.Author.Tests.{eq-eqb, eqb-true, eqb-false}
-use lib.ListN.{length, getD}
+use lib.ListN.{length}
 use lib.Dec.{eqb}
 use native.Mathlib.Numerals.{add-one}
 use native.Mathlib.Omega.{arith}
@@ -29,10 +29,6 @@ pub places-same : (l m : List ℕ) (n : ℕ) → ((i : ℕ) → i < n → placeI
 unfolding placesIn upTo
 places-same l m zero h = refl
 places-same l m (suc n) h = rw (places-same l m n (λ i k. h i (omega arith)), h n (omega arith))
-
-pub place-of : (l : List ℕ) (n i : ℕ) (d : Place) → i < n → getD (placesIn l n) i d ≡ placeIn l i
-unfolding placesIn
-place-of l n i d h = get-up (placeIn l) n i d h
 
 -- rows with the same place, and the same numbers for it
 pub place-same : (l m : List ℕ) (i : ℕ) → SameRow l m i → placeIn l i ≡ placeIn m i
