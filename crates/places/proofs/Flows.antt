@@ -4,10 +4,11 @@ use Rattle.numbers.specs.Number.{plus}
 use Rattle.numbers.specs.Choice.{pick}
 use Rattle.model.specs.declared.Place.the-variants.{Pair}
 use Rattle.model.specs.Places.{plain, whichOf, biccNames, idleBicc, Which, never, always, depends}
-use Rattle.model.specs.OldCore.{transferOf, target, Transfer, straight, trap, jmpl}
+use Rattle.model.specs.OldCore.{wordIn, transferOf, target, Transfer, straight, trap, jmpl}
 use lib.Dec.{eqb}
 use borrow.Author.Tests.{ne-eqb}
-use mathlib.Core.List.{[], _∷_}
+use mathlib.Core.List.{List, [], _∷_}
+use mathlib.Core.Option.{none, some}
 use native.Mathlib.Nat.{add-mod-mod}
 use native.Mathlib.Omega.{arith}
 use mathlib.Core.Bool.{Bool, true, false}
@@ -19,7 +20,9 @@ use Rattle.words.specs.declared.Instruction.the-variants.{Illegal, Call, Sethi,
 use Rattle.words.specs.declared.Instruction.{Instruction}
 use Rattle.words.specs.declared.Flow.the-variants.{Traps, Continues}
 use Rattle.words.specs.Flow.{flowOf}
-use Rattle.places.specs.Control.{transferred}
+use Rattle.places.specs.declared.control.Fetched.{Fetched}
+use Rattle.places.specs.declared.control.Fetched.the-variants.{Word, Outside}
+use Rattle.places.specs.Control.{wordOf, transferred}
 
 -- a displacement in words, shifted, is four times itself
 pub in-words : (p disp : ℕ) → plus p (disp * 4 % 2 ^ 32) ≡ target p disp
@@ -62,28 +65,49 @@ idle cond annul h = rw h (by-cond (eqb cond 0))
     by-cond true = refl
     by-cond false = sym (either (λ (w : Which). idleBicc w false ≡ false) (eqb cond 8) always depends refl refl)
 
+-- what a condition says before it is run
+pub which-never : {cond : ℕ} → cond ≡ 0 → whichOf cond ≡ never
+unfolding whichOf
+which-never e = rw e
+
+pub which-always : {cond : ℕ} → cond ≡ 8 → whichOf cond ≡ always
+unfolding whichOf
+which-always e = rw e
+
+pub which-depends : {cond : ℕ} → (cond ≡ 0 → ⊥) → (cond ≡ 8 → ⊥) → whichOf cond ≡ depends
+unfolding whichOf
+which-depends {cond} h k = rw (ne-eqb cond 0 h, ne-eqb cond 8 k)
+
+-- what is the same with annul and without, but for where the branch goes on if it is not taken
+pub by-annul : {A : Type 0} (f : Bool → A) (g : ℕ → A) (n : ℕ) → f true ≡ g (plus n 4) → f false ≡ g n → (annul : Bool) → f annul ≡ g (pick annul (plus n 4) n)
+by-annul f g n t u true = t
+by-annul f g n t u false = u
+
 -- what a branch names, by its condition
 module _ (cond : ℕ) (annul : Bool) (t n : ℕ) where
   pub never-names : cond ≡ 0 → biccNames (whichOf cond) annul t n ≡ plain (pick annul (plus n 4) n) ∷ []
-  unfolding whichOf biccNames
-  never-names e = rw e (go annul)
-    where
-      go : (b : Bool) → biccNames never b t n ≡ plain (pick b (plus n 4) n) ∷ []
-      go true = refl
-      go false = refl
+  unfolding biccNames
+  never-names e = rw (which-never e) (by-annul (λ b. biccNames never b t n) (λ m. plain m ∷ []) n refl refl annul)
 
   pub always-names : cond ≡ 8 → annul ≡ false → biccNames (whichOf cond) annul t n ≡ Pair n t ∷ []
-  unfolding whichOf biccNames
-  always-names e a = rw (e, a)
+  unfolding biccNames
+  always-names e a = rw (which-always e, a)
 
   pub always-annuls : cond ≡ 8 → annul ≡ true → biccNames (whichOf cond) annul t n ≡ plain t ∷ []
-  unfolding whichOf biccNames
-  always-annuls e a = rw (e, a)
+  unfolding biccNames
+  always-annuls e a = rw (which-always e, a)
 
   pub depends-names : (cond ≡ 0 → ⊥) → (cond ≡ 8 → ⊥) → biccNames (whichOf cond) annul t n ≡ Pair n t ∷ plain (pick annul (plus n 4) n) ∷ []
-  unfolding whichOf biccNames
-  depends-names h k = rw (ne-eqb cond 0 h, ne-eqb cond 8 k) (go annul)
-    where
-      go : (b : Bool) → biccNames depends b t n ≡ Pair n t ∷ plain (pick b (plus n 4) n) ∷ []
-      go true = refl
-      go false = refl
+  unfolding biccNames
+  depends-names h k =
+      rw (which-depends h k) (by-annul (λ b. biccNames depends b t n) (λ m. Pair n t ∷ plain m ∷ []) n refl refl annul)
+
+-- the word of an address, as it was fetched
+module _ (image : List ℕ) (base p : ℕ) {f : Fetched} (e : wordOf f ≡ wordIn image base p) where
+  pub fetched-none : f ≡ Outside → wordIn image base p ≡ none
+  unfolding wordOf
+  fetched-none h = sym (rw h at e)
+
+  pub fetched-some : {word : ℕ} → f ≡ Word word → wordIn image base p ≡ some word
+  unfolding wordOf
+  fetched-some h = sym (rw h at e)

@@ -12,7 +12,7 @@ use Rattle.model.specs.declared.Place.the-variants.{Pair, Held}
 use Rattle.model.specs.Places.{plain, placeAt, member, names, namesAt, followers, mayBeHeld, mayBeHeldAt, allowed, plains}
 use Rattle.places.proofs.Rows.{length-places, places-put, at-place}
 use Rattle.places.proofs.Chains.{member-number}
-use Rattle.places.proofs.Flows.{by-flow}
+use Rattle.places.proofs.Flows.{by-flow, fetched-none, fetched-some}
 use Rattle.places.specs.Table.{placeOf, placeIn, placesIn, putPlace, numberOf}
 use Rattle.places.specs.Control.{wordOf, transferred}
 use borrow.Author.Tests.{lt-ltb, le-ltb}
@@ -20,7 +20,7 @@ use lib.ListN.{length, drop}
 use lib.Dec.{eqb, ltb}
 use native.Mathlib.Numerals.{add-one}
 use native.Mathlib.Omega.{arith}
-use mathlib.Core.Option.{none, some}
+use mathlib.Core.Option.{some}
 use mathlib.Core.List.{List, [], _∷_, _++_}
 use mathlib.Core.Bool.{Bool, true, false}
 use mathlib.Core.Path.{_≡_, refl, sym, ap, _∙_}
@@ -151,18 +151,16 @@ held-flow i = by-flow mayBeHeld (λ rd rs1 x. refl) i
 -- a place handled, by its numbers and its word
 module _ (image : List ℕ) (base cap : ℕ) (ps : List Place) (p n k : ℕ) {f : Fetched} (e : wordOf f ≡ wordIn image base p) where
   pub handled-outside : f ≡ Outside → table ps ≡ handled image base cap ps (placeOf p n k)
-  unfolding handled placeOf wordOf allowed followers namesAt mayBeHeldAt tested grow grown
-  handled-outside h = let w : none ≡ wordIn image base p = rw h at e in go (eqb k 2) w
+  unfolding handled placeOf allowed followers namesAt mayBeHeldAt tested grow grown
+  handled-outside h = go (eqb k 2)
     where
-      go : (b : Bool) → none ≡ wordIn image base p
-          → table ps ≡ tested image base table cap ps (pick b (Held p) (Pair p n)) (allowed image base (pick b (Held p) (Pair p n)))
-      go true w = rw (← w)
-      go false w = rw (← w)
+      go : (b : Bool) → table ps ≡ tested image base table cap ps (pick b (Held p) (Pair p n)) (allowed image base (pick b (Held p) (Pair p n)))
+      go true = rw (fetched-none image base p e h)
+      go false = rw (fetched-none image base p e h)
 
   module _ {word : ℕ} {v : Flow} (h : f ≡ Word word) (i : v ≡ flowOf (instructionOf word)) where
     here : wordIn image base p ≡ some word
-    unfolding wordOf
-    here = sym (rw h at e)
+    here = fetched-some image base p e h
 
     pub handled-held : {held : Bool} {r : Found} (t : List ℕ) (c : ℕ) → ps ≡ placesIn t c → held ≡ eqb k 2 → held ≡ true
         → r ≡ pick (mayBeHeld (transferred v)) (Places c) (Forbidden p) → seen r t ≡ handled image base cap ps (placeOf p n k)

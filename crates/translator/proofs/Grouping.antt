@@ -13,11 +13,9 @@ use Rattle.places.specs.declared.control.Fetched.{Fetched}
 use Rattle.places.specs.declared.control.Fetched.the-variants.{Word, Outside}
 use Rattle.places.specs.Control.{wordOf, transferred}
 use Rattle.places.specs.Table.{placeOf, placeIn}
-use Rattle.places.proofs.Flows.{by-flow}
+use Rattle.places.proofs.Flows.{by-flow, which-never, which-always, which-depends, by-annul, fetched-none, fetched-some}
 use Rattle.translator.specs.Layout.{size}
-use borrow.Author.Tests.{ne-eqb}
 use lib.Dec.{eqb}
-use mathlib.Core.Option.{none, some}
 use mathlib.Core.List.{List}
 use mathlib.Core.Bool.{Bool, true, false}
 use mathlib.Core.Path.{_≡_, refl, sym}
@@ -26,35 +24,29 @@ use Prim.Native.Nat.{ℕ, _+_, _*_}
 -- the group of a branch, by its condition
 module _ (cond : ℕ) (annul : Bool) (t n : ℕ) where
   pub never-group : cond ≡ 0 → biccGroup (whichOf cond) cond annul t n ≡ one (goTo (plain (pick annul (plus n 4) n)))
-  unfolding whichOf biccGroup
-  never-group e = rw e (go annul)
-    where
-      go : (b : Bool) → biccGroup never 0 b t n ≡ one (goTo (plain (pick b (plus n 4) n)))
-      go true = refl
-      go false = refl
+  unfolding biccGroup
+  never-group e = rw (which-never e) (by-annul (λ b. biccGroup never cond b t n) (λ m. one (goTo (plain m))) n refl refl annul)
 
   pub always-group : cond ≡ 8 → annul ≡ false → biccGroup (whichOf cond) cond annul t n ≡ one (goTo (Pair n t))
-  unfolding whichOf biccGroup
-  always-group e a = rw (e, a)
+  unfolding biccGroup
+  always-group e a = rw (which-always e, a)
 
   pub annulled-group : cond ≡ 8 → annul ≡ true → biccGroup (whichOf cond) cond annul t n ≡ one (goTo (plain t))
-  unfolding whichOf biccGroup
-  annulled-group e a = rw (e, a)
+  unfolding biccGroup
+  annulled-group e a = rw (which-always e, a)
 
   pub depends-group : (cond ≡ 0 → ⊥) → (cond ≡ 8 → ⊥)
       → biccGroup (whichOf cond) cond annul t n ≡ two (goIf cond (Pair n t)) (goTo (plain (pick annul (plus n 4) n)))
-  unfolding whichOf biccGroup
-  depends-group h k = rw (ne-eqb cond 0 h, ne-eqb cond 8 k) (go annul)
-    where
-      go : (b : Bool) → biccGroup depends cond b t n ≡ two (goIf cond (Pair n t)) (goTo (plain (pick b (plus n 4) n)))
-      go true = refl
-      go false = refl
+  unfolding biccGroup
+  depends-group h k =
+      rw (which-depends h k)
+      (by-annul (λ b. biccGroup depends cond b t n) (λ m. two (goIf cond (Pair n t)) (goTo (plain m))) n refl refl annul)
 
   pub always-size : cond ≡ 8 → 1 ≡ size (biccGroup (whichOf cond) cond annul t n)
-  unfolding whichOf biccGroup size
-  always-size e = rw e (go annul)
+  unfolding biccGroup size
+  always-size e = rw (which-always e) (go annul)
     where
-      go : (b : Bool) → 1 ≡ size (biccGroup always 8 b t n)
+      go : (b : Bool) → 1 ≡ size (biccGroup always cond b t n)
       go true = refl
       go false = refl
 
@@ -70,23 +62,22 @@ held-group-flow i word p = by-flow (λ t. heldGroupOf t word p) (λ rd rs1 x. re
 -- the group of a place, by its address, its word and whether it is held
 module _ (image : List ℕ) (base p : ℕ) {f : Fetched} (e : wordOf f ≡ wordIn image base p) (held : Bool) (n : ℕ) where
   pub outside-group : f ≡ Outside → group image base (pick held (Held p) (Pair p n)) ≡ one (stop 2 p)
-  unfolding group groupAt heldGroupAt wordOf
-  outside-group h = let w : none ≡ wordIn image base p = rw h at e in go held w
+  unfolding group groupAt heldGroupAt
+  outside-group h = go held
     where
-      go : (b : Bool) → none ≡ wordIn image base p → group image base (pick b (Held p) (Pair p n)) ≡ one (stop 2 p)
-      go true w = rw (← w)
-      go false w = rw (← w)
+      go : (b : Bool) → group image base (pick b (Held p) (Pair p n)) ≡ one (stop 2 p)
+      go true = rw (fetched-none image base p e h)
+      go false = rw (fetched-none image base p e h)
 
   pub word-group : {word : ℕ} {v : Flow} → f ≡ Word word → v ≡ flowOf (instructionOf word)
       → group image base (pick held (Held p) (Pair p n)) ≡ pick held (heldGroupOf (transferred v) word p) (groupOf (transferred v) word p n)
-  unfolding group groupAt heldGroupAt wordOf
-  word-group {word} {v} h i = let w : some word ≡ wordIn image base p = rw h at e in rw i (go held w)
+  unfolding group groupAt heldGroupAt
+  word-group {word} {v} h i = rw i (go held)
     where
-      go : (b : Bool) → some word ≡ wordIn image base p
-          → group image base (pick b (Held p) (Pair p n))
+      go : (b : Bool) → group image base (pick b (Held p) (Pair p n))
           ≡ pick b (heldGroupOf (transferred (flowOf (instructionOf word))) word p) (groupOf (transferred (flowOf (instructionOf word))) word p n)
-      go true w = rw (← w) (sym (held-group-flow (instructionOf word) word p))
-      go false w = rw (← w) (sym (group-flow (instructionOf word) word p n))
+      go true = rw (fetched-some image base p e h) (sym (held-group-flow (instructionOf word) word p))
+      go false = rw (fetched-some image base p e h) (sym (group-flow (instructionOf word) word p n))
 
 -- the same of row i
 module _ (image : List ℕ) (base : ℕ) (l : List ℕ) (i : ℕ) {p : ℕ} {f : Fetched} (a : p ≡ numberAt l (16 * i)) (e : wordOf f ≡ wordIn image base p) where

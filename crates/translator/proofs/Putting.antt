@@ -57,26 +57,30 @@ put-append f (two r s) rest =
     record-append (numbered f r) (recordNumbers (numbered f s) (recordsNumbers rest))
     ∙ rw (record-append (numbered f s) (recordsNumbers rest), record-append (numbered f r) (recordNumbers (numbered f s) [])) (simp append-assoc)
 
--- a group put, of one record or of two, from the numbers that each record's put left
-module _ (f : Place → ℕ) (at : ℕ) (l0 l1 : List ℕ) where
-  pub puts-one : (x : Rec Place) {v : List ℕ} → recordNumbers (numbered f x) [] ≡ v → numbersOf l1 (3 * at + 3) ≡ numbersOf l0 (3 * at) ++ v
-      → Puts f (one x) at l0 l1 (at + 1)
-  unfolding past put recordsNumbers
-  puts-one x e h =
-      let k : 3 * suc at ≡ 3 * at + 3 = omega arith in
-      record { reaches = add-one at; numbers = rw (k, e) h }
+-- records put one after the other
+pub then-record : (at : ℕ) (l0 l1 l2 v w : List ℕ) → numbersOf l1 (3 * at + 3) ≡ numbersOf l0 (3 * at) ++ v
+    → numbersOf l2 (3 * (at + 1) + 3) ≡ numbersOf l1 (3 * (at + 1)) ++ w → numbersOf l2 (3 * (at + 2)) ≡ numbersOf l0 (3 * at) ++ (v ++ w)
+then-record at l0 l1 l2 v w h i =
+    let k : 3 * (at + 2) ≡ 3 * (at + 1) + 3 = omega arith in
+    let m : 3 * (at + 1) ≡ 3 * at + 3 = omega arith in
+    rw k (i ∙ rw (m, h) (append-assoc (numbersOf l0 (3 * at)) v w))
 
-  pub puts-two : (l2 : List ℕ) (x y : Rec Place) {v w : List ℕ} → recordNumbers (numbered f x) [] ≡ v → recordNumbers (numbered f y) [] ≡ w
-      → numbersOf l1 (3 * at + 3) ≡ numbersOf l0 (3 * at) ++ v → numbersOf l2 (3 * (at + 1) + 3) ≡ numbersOf l1 (3 * (at + 1)) ++ w
-      → Puts f (two x y) at l0 l2 (at + 2)
+-- a group put, of one record or of two, from the numbers that were put
+module _ (f : Place → ℕ) (at : ℕ) (l0 l1 : List ℕ) where
+  pub puts-one : (x : Rec Place) {v : List ℕ} {r : ℕ} → (r ≡ at + 1) × (numbersOf l1 (3 * r) ≡ numbersOf l0 (3 * at) ++ v)
+      → recordNumbers (numbered f x) [] ≡ v → Puts f (one x) at l0 l1 r
   unfolding past put recordsNumbers
-  puts-two l2 x y {v} {w} e d h i =
-      let k : 3 * suc (suc at) ≡ 3 * (at + 1) + 3 = omega arith in
-      let m : 3 * (at + 1) ≡ 3 * at + 3 = omega arith in
+  puts-one x h e = record { reaches = h .0 ∙ add-one at; numbers = rw (← add-one at, ← h .0, e) (h .1) }
+
+  pub puts-two : (x y : Rec Place) {a b c d e g r : ℕ}
+      → (r ≡ at + 2) × (numbersOf l1 (3 * r) ≡ numbersOf l0 (3 * at) ++ (a ∷ b ∷ c ∷ d ∷ e ∷ g ∷ []))
+      → recordNumbers (numbered f x) [] ≡ a ∷ b ∷ c ∷ [] → recordNumbers (numbered f y) [] ≡ d ∷ e ∷ g ∷ [] → Puts f (two x y) at l0 l1 r
+  unfolding past put recordsNumbers
+  puts-two x y {r = r} h u v =
+      let k : suc (suc at) ≡ r = omega (arith, h .0) in
       record {
-        reaches = omega arith;
-        numbers = rw k (i ∙ rw (m, h, append-assoc (numbersOf l0 (3 * at)) v w)
-            (ap (λ (t : List ℕ). numbersOf l0 (3 * at) ++ t) (sym (record-append (numbered f x) (recordNumbers (numbered f y) []) ∙ rw (e, d)))));
+        reaches = sym k;
+        numbers = rw (k, record-append (numbered f x) (recordNumbers (numbered f y) []), u, v) (h .1);
       }
 
 pub puts-as : {f : Place → ℕ} {g h : Group Place} {at : ℕ} {l m : List ℕ} {r : ℕ} → g ≡ h → Puts f h at l m r → Puts f g at l m r

@@ -7,7 +7,7 @@ ghost use Rattle.numbers.specs.Number.{numbersOf};
 ghost use Rattle.model.specs.declared.Place.{Place};
 ghost use Rattle.model.specs.declared.Place.the-variants.{Pair, Held};
 ghost use Rattle.model.specs.Places.{plain, whichOf};
-ghost use Rattle.model.specs.Records.{Rec, one, two, biccGroup, groupOf, heldGroupOf, group, past, numbered, recordNumbers, recordsNumbers, recordsFrom};
+ghost use Rattle.model.specs.Records.{biccGroup, groupOf, heldGroupOf, group, past, recordsNumbers, recordsFrom};
 ghost use Rattle.places.specs.Control.{transferred};
 ghost use Rattle.places.specs.Table.{placeOf, placeIn, placesIn, Shows};
 ghost use Rattle.places.specs.Index.{Indexed};
@@ -83,7 +83,7 @@ fn put_record(records: &mut [u8], at: usize, kind: u32, first: u32, second: u32)
 // Puts a group of one record, and answers where the next group comes.
 fn put_one(records: &mut [u8], at: usize, kind: u32, first: u32, second: u32) -> usize
     requires { ⌜ 12 * at + 12 ≤ length (now records) ⌝ }
-    ensures { λ r. ⌜ ((f : Place → ℕ) (x : Rec Place) → recordNumbers (numbered f x) [] ≡ kind ∷ first ∷ second ∷ [] → Puts f (one x) at (now (records .entry)) (now (records .exit)) r) ⌝ }
+    ensures { λ r. ⌜ (r ≡ at + 1) × (numbersOf (now (records .exit)) (3 * r) ≡ numbersOf (now (records .entry)) (3 * at) ++ (kind ∷ first ∷ second ∷ [])) ⌝ }
 {
     put_record(records, at, kind, first, second);
     at + 1
@@ -100,7 +100,7 @@ fn put_two(
     to: u32,
 ) -> usize
     requires { ⌜ 12 * at + 24 ≤ length (now records) ⌝ }
-    ensures { λ r. ⌜ ((f : Place → ℕ) (x y : Rec Place) → recordNumbers (numbered f x) [] ≡ kind ∷ first ∷ second ∷ [] → recordNumbers (numbered f y) [] ≡ then ∷ to ∷ 0 ∷ [] → Puts f (two x y) at (now (records .entry)) (now (records .exit)) r) ⌝ }
+    ensures { λ r. ⌜ (r ≡ at + 2) × (numbersOf (now (records .exit)) (3 * r) ≡ numbersOf (now (records .entry)) (3 * at) ++ (kind ∷ first ∷ second ∷ then ∷ to ∷ 0 ∷ [])) ⌝ }
 {
     put_record(records, at, kind, first, second);
     put_record(records, at + 1, then, to, 0);

@@ -1,6 +1,6 @@
 use Rattle.model.specs.Records.{numbered, recordNumbers}
 use Rattle.translator.proofs.Grouping.{never-group, always-group, annulled-group, depends-group}
-use Rattle.translator.proofs.Putting.{puts-as, room-one, room-two}
+use Rattle.translator.proofs.Putting.{puts-one, puts-two, puts-as, room-one, room-two}
 use borrow.Author.Needs.{needs}
 use Rattle.translator.proofs.records.put_branch.Statement.{statement}
 use Rattle.translator.proofs.records.put_branch.Tie as tie
@@ -19,7 +19,7 @@ same-length c = search needs
 
 returns : tie.Need-returns
 unfolding numbered recordNumbers
-returns c = puts-as (never-group _ _ _ _ (c .before .before .before .before .before .before .if1 .taken)) (c .before .before .put-one .ensures _ _ (rw (c .before .before .before .before .first-of-plain .ensures, c .before .before .before .before .before .untaken .ensures)))
+returns c = puts-as (never-group _ _ _ _ (c .before .before .before .before .before .before .if1 .taken)) (puts-one _ _ _ _ _ (c .before .before .put-one .ensures) (rw (c .before .before .before .before .first-of-plain .ensures, c .before .before .before .before .before .untaken .ensures)))
 
 first-of-plain-requires-2 : tie.Need-first-of-plain-requires-2
 first-of-plain-requires-2 c κs = search needs
@@ -32,7 +32,7 @@ same-length-2 c = search needs
 
 returns-2 : tie.Need-returns-2
 unfolding numbered recordNumbers
-returns-2 c = puts-as (annulled-group _ _ _ _ (c .before .before .before .before .before .before .if2 .taken) (c .before .before .before .before .before .if3 .taken)) (c .before .before .put-one2 .ensures _ _ (rw (c .before .before .before .before .first-of-plain2 .ensures)))
+returns-2 c = puts-as (annulled-group _ _ _ _ (c .before .before .before .before .before .before .if2 .taken) (c .before .before .before .before .before .if3 .taken)) (puts-one _ _ _ _ _ (c .before .before .put-one2 .ensures) (rw (c .before .before .before .before .first-of-plain2 .ensures)))
 
 first-of-pair-requires : tie.Need-first-of-pair-requires
 first-of-pair-requires c κs = search needs
@@ -45,7 +45,7 @@ same-length-3 c = search needs
 
 returns-3 : tie.Need-returns-3
 unfolding numbered recordNumbers
-returns-3 c = puts-as (always-group _ _ _ _ (c .before .before .before .before .before .before .if2 .taken) (c .before .before .before .before .before .if3 .left)) (c .before .before .put-one3 .ensures _ _ (rw (c .before .before .before .before .first-of-pair .ensures)))
+returns-3 c = puts-as (always-group _ _ _ _ (c .before .before .before .before .before .before .if2 .taken) (c .before .before .before .before .before .if3 .left)) (puts-one _ _ _ _ _ (c .before .before .put-one3 .ensures) (rw (c .before .before .before .before .first-of-pair .ensures)))
 
 first-of-pair-requires-2 : tie.Need-first-of-pair-requires-2
 first-of-pair-requires-2 c κs = search needs
@@ -64,7 +64,7 @@ same-length-4 c = search needs
 
 returns-4 : tie.Need-returns-4
 unfolding numbered recordNumbers
-returns-4 c = puts-as (depends-group _ _ _ _ (c .before .before .before .before .before .before .before .before .if1 .left) (c .before .before .before .before .before .before .before .if2 .left)) (c .before .before .put-two .ensures _ _ _ (rw (c .before .before .before .before .before .before .first-of-pair2 .ensures)) (rw (c .before .before .before .before .first-of-plain3 .ensures, c .before .before .before .before .before .untaken2 .ensures)))
+returns-4 c = puts-as (depends-group _ _ _ _ (c .before .before .before .before .before .before .before .before .if1 .left) (c .before .before .before .before .before .before .before .if2 .left)) (puts-two _ _ _ _ _ _ (c .before .before .put-two .ensures) (rw (c .before .before .before .before .before .before .first-of-pair2 .ensures)) (rw (c .before .before .before .before .first-of-plain3 .ensures, c .before .before .before .before .before .untaken2 .ensures)))
 
 pub put-branch-spec : {M : Type 1} → statement M
 put-branch-spec =

@@ -1,6 +1,6 @@
 use Rattle.model.specs.Records.{numbered, recordNumbers}
 use Rattle.translator.proofs.Grouping.{row-outside, row-held, row-pair}
-use Rattle.translator.proofs.Putting.{puts-as, room-as, room-one}
+use Rattle.translator.proofs.Putting.{puts-one, puts-as, room-as, room-one}
 use mathlib.Core.Path.{refl}
 use borrow.Author.Needs.{needs}
 use Rattle.translator.proofs.records.put_group.Statement.{statement}
@@ -53,7 +53,7 @@ same-length-3 c = search needs
 
 returns-3 : tie.Need-returns-3
 unfolding numbered recordNumbers
-returns-3 c = puts-as (row-outside _ _ _ _ (c .before .before .before .before .before .before .before .address .ensures) (c .before .before .before .before .before .before .fetch .ensures) (c .before .before .before .before .enum-told .given .1)) (c .before .before .put-one .ensures _ _ refl)
+returns-3 c = puts-as (row-outside _ _ _ _ (c .before .before .before .before .before .before .before .address .ensures) (c .before .before .before .before .before .before .fetch .ensures) (c .before .before .before .before .enum-told .given .1)) (puts-one _ _ _ _ _ (c .before .before .put-one .ensures) refl)
 
 pub put-group-spec : {M : Type 1} → statement M
 put-group-spec =

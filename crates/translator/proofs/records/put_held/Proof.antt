@@ -1,3 +1,4 @@
+use Rattle.translator.proofs.Putting.{puts-one, puts-two}
 use Rattle.model.specs.Records.{past, heldGroupOf, numbered, recordNumbers}
 use Rattle.places.specs.Control.{transferred}
 use Prim.Native.Nat.{suc, _*_, _≤_}
@@ -55,42 +56,42 @@ same-length c = search needs
 
 returns : tie.Need-returns
 unfolding heldGroupOf transferred numbered recordNumbers
-returns c = λ first. rw (c .before .before .before .before .enum-told .given .1) (c .before .before .put-one .ensures first _ refl)
+returns c = λ first. rw (c .before .before .before .before .enum-told .given .1) (puts-one first _ _ _ _ (c .before .before .put-one .ensures) refl)
 
 same-length-2 : tie.Need-same-length-2
 same-length-2 c = search needs
 
 returns-2 : tie.Need-returns-2
 unfolding heldGroupOf transferred numbered recordNumbers
-returns-2 c = λ first. rw (c .before .before .before .before .enum-told2 .given .1) (c .before .before .put-two .ensures first _ _ refl refl)
+returns-2 c = λ first. rw (c .before .before .before .before .enum-told2 .given .1) (puts-two first _ _ _ _ _ (c .before .before .put-two .ensures) refl refl)
 
 same-length-3 : tie.Need-same-length-3
 same-length-3 c = search needs
 
 returns-3 : tie.Need-returns-3
 unfolding heldGroupOf transferred numbered recordNumbers
-returns-3 c = λ first. rw (c .before .before .before .before .enum-told3 .given .1) (c .before .before .put-one2 .ensures first _ refl)
+returns-3 c = λ first. rw (c .before .before .before .before .enum-told3 .given .1) (puts-one first _ _ _ _ (c .before .before .put-one2 .ensures) refl)
 
 same-length-4 : tie.Need-same-length-4
 same-length-4 c = search needs
 
 returns-4 : tie.Need-returns-4
 unfolding heldGroupOf transferred numbered recordNumbers
-returns-4 c = λ first. rw (c .before .before .before .before .before .f .given .1) (c .before .before .put-two2 .ensures first _ _ refl refl)
+returns-4 c = λ first. rw (c .before .before .before .before .before .f .given .1) (puts-two first _ _ _ _ _ (c .before .before .put-two2 .ensures) refl refl)
 
 same-length-5 : tie.Need-same-length-5
 same-length-5 c = search needs
 
 returns-5 : tie.Need-returns-5
 unfolding heldGroupOf transferred numbered recordNumbers
-returns-5 c = λ first. rw (c .before .before .before .before .before .f2 .given .1) (c .before .before .put-two3 .ensures first _ _ refl refl)
+returns-5 c = λ first. rw (c .before .before .before .before .before .f2 .given .1) (puts-two first _ _ _ _ _ (c .before .before .put-two3 .ensures) refl refl)
 
 same-length-6 : tie.Need-same-length-6
 same-length-6 c = search needs
 
 returns-6 : tie.Need-returns-6
 unfolding heldGroupOf transferred numbered recordNumbers
-returns-6 c = λ first. rw (c .before .before .before .before .before .f3 .given .1) (c .before .before .put-two4 .ensures first _ _ refl refl)
+returns-6 c = λ first. rw (c .before .before .before .before .before .f3 .given .1) (puts-two first _ _ _ _ _ (c .before .before .put-two4 .ensures) refl refl)
 
 pub put-held-spec : {M : Type 1} → statement M
 put-held-spec =

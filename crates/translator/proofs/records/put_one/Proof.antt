@@ -1,4 +1,6 @@
-use Rattle.translator.proofs.Putting.{puts-one}
+use native.Mathlib.Omega.{arith}
+use mathlib.Core.Path.{_≡_, refl}
+use Prim.Native.Nat.{_+_, _*_}
 use borrow.Author.Needs.{needs}
 use Rattle.translator.proofs.records.put_one.Statement.{statement}
 use Rattle.translator.proofs.records.put_one.Tie as tie
@@ -13,7 +15,9 @@ same-length : tie.Need-same-length
 same-length c = search needs
 
 returns : tie.Need-returns
-returns c = λ f x e. puts-one f _ _ _ x e (c .before .before .put-record .ensures)
+returns c = let at = c .before .before .before .before .before .args .at in
+    let k : 3 * (at + 1) ≡ 3 * at + 3 = omega arith in
+    (refl, rw k (c .before .before .put-record .ensures))
 
 pub put-one-spec : {M : Type 1} → statement M
 put-one-spec = tie.close (tie.spec put-record-requires add-result same-length returns)

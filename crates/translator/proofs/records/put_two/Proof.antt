@@ -1,4 +1,5 @@
-use Rattle.translator.proofs.Putting.{puts-two}
+use Rattle.translator.proofs.Putting.{then-record}
+use mathlib.Core.Path.{refl}
 use borrow.Author.Needs.{needs}
 use Rattle.translator.proofs.records.put_two.Statement.{statement}
 use Rattle.translator.proofs.records.put_two.Tie as tie
@@ -19,7 +20,7 @@ same-length : tie.Need-same-length
 same-length c = search needs
 
 returns : tie.Need-returns
-returns c = λ f x y d e. puts-two f _ _ _ _ x y d e (c .before .before .before .before .before .before .put-record .ensures) (c .before .before .put-record2 .ensures)
+returns c = (refl, then-record _ _ _ _ _ _ (c .before .before .before .before .before .before .put-record .ensures) (c .before .before .put-record2 .ensures))
 
 pub put-two-spec : {M : Type 1} → statement M
 put-two-spec =

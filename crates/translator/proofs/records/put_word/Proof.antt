@@ -1,3 +1,4 @@
+use Rattle.translator.proofs.Putting.{puts-one, puts-two}
 use Rattle.model.specs.Records.{past, groupOf, numbered, recordNumbers}
 use Rattle.places.specs.Control.{transferred}
 use Rattle.places.specs.Table.{placeOf}
@@ -72,28 +73,28 @@ same-length c = search needs
 
 returns : tie.Need-returns
 unfolding groupOf transferred numbered recordNumbers
-returns c = rw (c .before .before .before .before .enum-told .given .1) (c .before .before .put-one .ensures _ _ refl)
+returns c = rw (c .before .before .before .before .enum-told .given .1) (puts-one _ _ _ _ _ (c .before .before .put-one .ensures) refl)
 
 same-length-2 : tie.Need-same-length-2
 same-length-2 c = search needs
 
 returns-2 : tie.Need-returns-2
 unfolding groupOf transferred numbered recordNumbers
-returns-2 c = rw (c .before .before .before .before .before .enum-told2 .given .1) (c .before .before .put-two .ensures _ _ _ refl (rw (c .before .before .before .before .first-of-plain .ensures)))
+returns-2 c = rw (c .before .before .before .before .before .enum-told2 .given .1) (puts-two _ _ _ _ _ _ (c .before .before .put-two .ensures) refl (rw (c .before .before .before .before .first-of-plain .ensures)))
 
 same-length-3 : tie.Need-same-length-3
 same-length-3 c = search needs
 
 returns-3 : tie.Need-returns-3
 unfolding groupOf transferred numbered recordNumbers
-returns-3 c = rw (c .before .before .before .before .enum-told3 .given .1) (c .before .before .put-one2 .ensures _ _ refl)
+returns-3 c = rw (c .before .before .before .before .enum-told3 .given .1) (puts-one _ _ _ _ _ (c .before .before .put-one2 .ensures) refl)
 
 same-length-4 : tie.Need-same-length-4
 same-length-4 c = search needs
 
 returns-4 : tie.Need-returns-4
 unfolding groupOf transferred numbered recordNumbers
-returns-4 c = rw (c .before .before .before .before .before .before .before .f .given .1) (c .before .before .put-two2 .ensures _ _ _ refl (rw (c .before .before .before .before .first-of-pair .ensures, c .before .before .before .before .before .target .ensures)))
+returns-4 c = rw (c .before .before .before .before .before .before .before .f .given .1) (puts-two _ _ _ _ _ _ (c .before .before .put-two2 .ensures) refl (rw (c .before .before .before .before .first-of-pair .ensures, c .before .before .before .before .before .target .ensures)))
 
 same-length-5 : tie.Need-same-length-5
 same-length-5 c = search needs
@@ -107,7 +108,7 @@ same-length-6 c = search needs
 
 returns-6 : tie.Need-returns-6
 unfolding groupOf transferred numbered recordNumbers placeOf
-returns-6 c = rw (c .before .before .before .before .before .before .f3 .given .1) (c .before .before .put-two3 .ensures _ _ _ refl (rw (c .before .before .before .before .first-record .ensures)))
+returns-6 c = rw (c .before .before .before .before .before .before .f3 .given .1) (puts-two _ _ _ _ _ _ (c .before .before .put-two3 .ensures) refl (rw (c .before .before .before .before .first-record .ensures)))
 
 pub put-word-spec : {M : Type 1} → statement M
 put-word-spec =
