@@ -1,8 +1,10 @@
 // Files of cases: numbers of four bytes, big-endian, and byte areas padded to a multiple of four.
 ghost use mathlib.Core.Path.{_≡_};
-ghost use Prim.Native.Nat.{_+_, _*_, _/_, _≤_, _<_, _^_, min};
+ghost use mathlib.Core.Bool.{true};
+ghost use mathlib.Core.List.{_++_};
+ghost use Prim.Native.Nat.{_+_, _-_, _*_, _/_, _≤_, _<_, _^_, min};
 ghost use lib.Dec.{leb};
-ghost use lib.ListN.{length, take, drop};
+ghost use lib.ListN.{length, take, drop, getD, replicate};
 ghost use Rattle.numbers.specs.Choice.{pick};
 ghost use Rattle.numbers.specs.Number.{numberAt};
 
@@ -74,7 +76,9 @@ pub fn part(bytes: &[u8], start: usize, n: usize) -> &[u8]
 }
 
 // Copies as many bytes as both have.
-pub fn copy(to: &mut [u8], from: &[u8]) {
+pub fn copy(to: &mut [u8], from: &[u8])
+    ensures { λ _. ⌜ now (to .exit) ≡ take (length (now (to .entry))) (now (from .entry)) ++ drop (length (now (from .entry))) (now (to .entry)) ⌝ }
+{
     let mut i: usize = 0;
     while i < least(to.len(), from.len()) {
         to[i] = from[i];
@@ -83,12 +87,16 @@ pub fn copy(to: &mut [u8], from: &[u8]) {
 }
 
 // The byte at a position, or another one past the end.
-fn byte_or(bytes: &[u8], i: usize, other: u8) -> u8 {
+fn byte_or(bytes: &[u8], i: usize, other: u8) -> u8
+    ensures { λ r. ⌜ r ≡ getD (now (bytes .entry)) i other ⌝ }
+{
     if i < bytes.len() { bytes[i] } else { other }
 }
 
 // Whether an area starts with known bytes and has one byte alone past them.
-pub fn holds(area: &[u8], known: &[u8], past: u8) -> bool {
+pub fn holds(area: &[u8], known: &[u8], past: u8) -> bool
+    ensures { λ r. ⌜ (r ≡ true → now (area .entry) ≡ now (known .entry) ++ replicate (length (now (area .entry)) - length (now (known .entry))) past) × (now (area .entry) ≡ now (known .entry) ++ replicate (length (now (area .entry)) - length (now (known .entry))) past → r ≡ true) ⌝ }
+{
     let mut i: usize = 0;
     while i < area.len() {
         if area[i] != byte_or(known, i, past) {
