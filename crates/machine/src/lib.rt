@@ -12,6 +12,9 @@ pub mod registers;
 // An address of the source program. It is never read as a record number.
 pub struct SourcePc(pub u32);
 
+// A record's number. It is never read as a source address.
+pub struct TargetPc(pub u32);
+
 // The flags N, Z, V and C as one number, 8N + 4Z + 2V + C.
 pub struct Flags {
     pub nzvc: u32,

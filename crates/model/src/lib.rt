@@ -5,6 +5,7 @@ ghost use Rattle.model.specs.NewState.{newStartValues};
 use machine::End;
 use machine::Flags;
 use machine::SourcePc;
+use machine::TargetPc;
 
 // The old core's state but for its registers, which are lent beside it.
 pub struct OldControl {
@@ -41,9 +42,6 @@ impl OldCore {
         }
     }
 }
-
-// A record's number. It is never read as a source address.
-pub struct TargetPc(pub u32);
 
 // The new core's state but for its registers, which are lent beside it: the record at hand, and the held address.
 pub struct NewControl {

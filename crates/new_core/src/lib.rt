@@ -8,7 +8,7 @@ ghost use Rattle.numbers.specs.Choice.{pick};
 ghost use Rattle.machine.specs.Ends.{ending, endingOf, go, halt, isGoing, live, left, settle, within};
 ghost use Rattle.machine.specs.Registers.{putRegister};
 ghost use Rattle.machine.specs.Effect.{machine, effectOf};
-ghost use Rattle.model.specs.Run.{step, run, zeroed, dataOf, beyond, lent};
+ghost use Rattle.model.specs.Run.{run, zeroed, dataOf, beyond, lent};
 ghost use Rattle.model.specs.OldCore.{transferOf, inImage};
 ghost use Rattle.model.specs.Places.{whichOf, idleBicc};
 ghost use Rattle.model.specs.Records.{rowsIn, recordAt};
@@ -18,13 +18,13 @@ ghost use Rattle.new_core.specs.Sought.{soughtOf};
 use machine::End;
 use machine::Flags;
 use machine::SourcePc;
+use machine::TargetPc;
 use machine::effect::Effect;
 use machine::effect::perform;
 use machine::registers::address;
 use machine::registers::put;
 use model::NewControl;
 use model::NewCore;
-use model::TargetPc;
 use words::Instruction;
 
 // The run goes on at a record.
@@ -376,19 +376,4 @@ pub fn run(
         registers: regs,
         control: k,
     }
-}
-
-// One step.
-pub fn step(
-    records: &[u8],
-    places: &[u8],
-    base: u32,
-    size: u32,
-    db: u32,
-    core: NewCore,
-    area: &mut [u8],
-) -> NewCore
-    ensures { λ r. ⌜ lent (newState (r .registers) (r .control) (dataOf (now (area .exit)))) (beyond (now (area .exit))) ≡ lent (step (newNext (now (records .entry)) (now (places .entry)) base size db) (newState (zeroed (core .registers)) (core .control) (dataOf (now (area .entry))))) (beyond (now (area .entry))) ⌝ }
-{
-    run(records, places, base, size, db, core, area, 1)
 }

@@ -8,7 +8,7 @@ ghost use Rattle.words.specs.Conditions.{holdsOf};
 ghost use Rattle.machine.specs.Ends.{ending, halt, isGoing, live, left, settle};
 ghost use Rattle.machine.specs.Registers.{addressOf};
 ghost use Rattle.machine.specs.Effect.{machine};
-ghost use Rattle.model.specs.Run.{step, run, zeroed, dataOf, beyond, lent};
+ghost use Rattle.model.specs.Run.{run, zeroed, dataOf, beyond, lent};
 ghost use Rattle.model.specs.OldCore.{old, wordIn, transferOf, target, follows, branches, jumps, executes, fetches, oldNext, oldBegun};
 ghost use Rattle.model.specs.OldState.{isSet, oldOf, oldState};
 use machine::End;
@@ -237,11 +237,4 @@ pub fn run(image: &[u8], base: u32, db: u32, core: OldCore, area: &mut [u8], cou
         registers: regs,
         control: k,
     }
-}
-
-// One step.
-pub fn step(image: &[u8], base: u32, db: u32, core: OldCore, area: &mut [u8]) -> OldCore
-    ensures { λ r. ⌜ lent (oldState (r .registers) (r .control) (dataOf (now (area .exit)))) (beyond (now (area .exit))) ≡ lent (step (oldNext (now (image .entry)) base db) (oldState (zeroed (core .registers)) (core .control) (dataOf (now (area .entry))))) (beyond (now (area .entry))) ⌝ }
-{
-    run(image, base, db, core, area, 1)
 }

@@ -9,9 +9,9 @@ ghost use Rattle.model.specs.StateBytes.{newIn, newBytes, after, newBegins, new
 use machine::Ended;
 use machine::Flags;
 use machine::SourcePc;
+use machine::TargetPc;
 use model::NewControl;
 use model::NewCore;
-use model::TargetPc;
 
 // The state that 148 bytes stand for.
 fn decode(state: &[u8; 148]) -> NewCore

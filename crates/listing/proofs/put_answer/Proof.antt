@@ -1,6 +1,5 @@
 use Rattle.listing.proofs.Lines.{written-within}
 use Rattle.model.specs.Translation.{answerNumbers}
-use Rattle.model.specs.Cases.{given}
 use Rattle.translator.specs.Handing.{placesCounted, recordsCounted}
 use Rattle.listing.specs.Listing.{answerText}
 use native.Mathlib.Omega.{arith}

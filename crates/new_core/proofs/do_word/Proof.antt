@@ -1,7 +1,6 @@
 use Rattle.machine.proofs.Effects.{effects-end, after-effect}
 use Rattle.machine.specs.Ends.{within}
 use Rattle.machine.specs.Effect.{machine, effectOf, Machine}
-use Rattle.model.specs.Cases.{given}
 use Rattle.model.specs.Places.{mayBeHeld}
 use Rattle.model.specs.OldCore.{transferOf}
 use Rattle.model.specs.NewCore.{following, fit, new}

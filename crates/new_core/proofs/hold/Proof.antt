@@ -1,5 +1,4 @@
 use Rattle.machine.specs.Ends.{endingOf, left, settle}
-use Rattle.model.specs.Cases.{address, given}
 use Rattle.model.specs.Records.{put, stop}
 use Rattle.model.specs.OldCore.{transferOf}
 use Rattle.model.specs.NewCore.{following, holds}

@@ -1,5 +1,4 @@
 use Rattle.model.proofs.Runs.{lent-back}
-use Rattle.model.specs.Cases.{given}
 use Rattle.model.specs.Run.{zeroed}
 use Rattle.model.specs.NewCore.{newNext}
 use Rattle.model.specs.NewState.{newState}

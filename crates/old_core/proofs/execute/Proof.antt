@@ -1,4 +1,3 @@
-use Rattle.model.specs.Cases.{given}
 use Rattle.model.specs.Records.{put, stop}
 use Rattle.machine.proofs.Effects.{effects-end, after-effect}
 use Rattle.machine.specs.Effect.{machine, Machine}

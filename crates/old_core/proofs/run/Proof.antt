@@ -1,4 +1,3 @@
-use Rattle.model.specs.Cases.{given}
 use Rattle.model.specs.Run.{zeroed}
 use Rattle.model.specs.OldCore.{oldNext}
 use Rattle.model.proofs.Runs.{lent-back}

@@ -1,5 +1,4 @@
 use Rattle.model.specs.Translation.{placeRoom}
-use Rattle.model.specs.Cases.{given}
 use Rattle.places.proofs.Chains.{index-none}
 use Rattle.places.proofs.Walking.{within-places, indexed-places}
 use Rattle.translator.proofs.Checking.{good-count, tr-length, tr-base, tr-count, tr-entry, tr-walk}

@@ -1,6 +1,5 @@
 use native.Mathlib.Omega.{arith}
 use Rattle.translator.proofs.Checking.{bad-at}
-use Rattle.model.specs.Cases.{given}
 use Rattle.model.specs.Records.{numbersIn}
 use Rattle.translator.proofs.Handed.{handed-back}
 use Rattle.translator.specs.Handing.{badFrom}

@@ -1,4 +1,3 @@
-use Rattle.model.specs.Cases.{start, given}
 use Rattle.model.specs.Walk.{walk}
 use Rattle.places.proofs.Walking.{within-places, indexed-places, known-by, ended-forbidden, ended-full, from-entries, grown-places, grown-forbidden, grown-full}
 use native.Mathlib.Omega.{arith}

@@ -1,4 +1,3 @@
-use Rattle.model.specs.Cases.{given}
 use Rattle.model.specs.Walk.{handle, walk}
 use Rattle.places.proofs.Walking.{within-places, indexed-places, ended-forbidden, ended-full, still, grown-places, grown-forbidden, grown-full, walk-on, walk-end}
 use Rattle.places.specs.Table.{placesIn}
