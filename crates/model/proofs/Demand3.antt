@@ -1,5 +1,5 @@
 -- Demand 3.
-use Prim.Native.Nat.{ℕ, suc, _+_, _*_, _≤_, _<_}
+use Prim.Native.Nat.{ℕ, suc, _+_, _*_, _^_, _≤_, _<_}
 use native.Mathlib.Nat.{zero-add}
 use native.Mathlib.Omega.{arith}
 use mathlib.Core.Path.{_≡_, refl, sym, ap, _∙_}
@@ -23,7 +23,7 @@ use Rattle.model.specs.Records.{first, rowsOf, recordsOf, rowsIn, record
 use Rattle.model.specs.NewCore.{New, new, seek, begunAt, newBegun}
 use Rattle.model.specs.Translation.{Handed, translation, placeRoom}
 use Rattle.model.specs.Trails.{Core, Trail, at, trail, entry, closing, opening, Unspent, stood}
-use Rattle.model.specs.Cores.{shownOf, Start, startMachine, oldOver, newOver, oldBegin, newBegin, stepsFor, trailOf}
+use Rattle.model.specs.Cores.{shownOf, Start, startMachine, oldOver, newOver, oldBegin, newBegin, stepsFor, trailOf, newTrailAt}
 use Rattle.model.specs.Demand3.{Placed, Begins, Complete, Strays, Claim, Holds, Demand3}
 use Rattle.model.proofs.Shown.{shown-again, get-other}
 use Rattle.model.proofs.Hop.{Over}
@@ -258,12 +258,26 @@ laid image base entryList placesLength recordsLength position placeCount recordC
       records-bytes = rw r (below-bytes (recordsNumbers (recordsOf image base (tk .ps))));
     }
 
--- an address with a plain place is found in the table
-pub finds : (image : List ℕ) (base : ℕ) (entryList : List ℕ) (cap : ℕ) (places records : List ℕ) (L : Laid image base entryList cap places records) (a : ℕ)
-    → Placed image base entryList a → seek (rowsIn places) a ≡ some (0 + first image base (L .ps) (plain a))
-unfolding rowsOf
-finds image base entryList cap places records L a h =
-    rw (L .table-read) (sought image base (L .ps) 0 a (made-member image base cap (numbersIn entryList) (L .ps) (L .made) (L .closed) (plain a) h))
+-- an address with a plain place is in the list that the walk found, and so is a number of 32 bits and found in the table
+module _ (image : List ℕ) (base : ℕ) (entryList : List ℕ) (cap : ℕ) (places records : List ℕ) (L : Laid image base entryList cap places records) (a : ℕ)
+    (h : Placed image base entryList a) where
+  listed : member (L .ps) (plain a) ≡ true
+  listed = made-member image base cap (numbersIn entryList) (L .ps) (L .made) (L .closed) (plain a) h
+
+  pub placed-lt : a < 2 ^ 32
+  placed-lt = L .closed .aligned-at (plain a) listed .2
+
+  pub finds : seek (rowsIn places) a ≡ some (0 + first image base (L .ps) (plain a))
+  unfolding rowsOf
+  finds = rw (L .table-read) (sought image base (L .ps) 0 a listed)
+
+-- so the trail that demand 3 speaks of is the one that the new core has from its begin
+pub begun-trail : (image : List ℕ) (base : ℕ) (entryList : List ℕ) (cap : ℕ) (places records : List ℕ) → Laid image base entryList cap places records
+    → (y : Start) → Placed image base entryList (y .address) → (db k : ℕ)
+    → newTrailAt (newOver records places base (length image) db) (stepsFor k) k (y .address) (newBegin places base (length image) y)
+    ≡ trailOf (newOver records places base (length image) db) k (newBegin places base (length image) y)
+unfolding newTrailAt newBegun begunAt
+begun-trail image base entryList cap places records L y h db k = rw (finds image base entryList cap places records L (y .address) h)
 
 pub demand3 : Demand3
 unfolding Demand3

@@ -85,10 +85,9 @@ Interface =
     (image : List ℕ) (base : ℕ) (entryList : List ℕ) (placesLength recordsLength placeCount recordCount : ℕ) (table list : List ℕ)
     → Below 256 image → Below 256 entryList
     → HandsBack image base entryList placesLength recordsLength (0 ∷ placeCount ∷ recordCount ∷ []) table list
-    -- for each core any bytes of a state and any data, and an address with a plain place; the old core's is a number of 32 bits, as its
-    -- state's bytes have it, and the new core's is so by the table
+    -- for each core any bytes of a state and any data, and an address with a plain place
     → (b b′ : Bytes) → Below 256 (b .state) → Below 256 (b .area) → Below 256 (b′ .state) → Below 256 (b′ .area)
-    → (a a′ : ℕ) → a < 2 ^ 32 → Placed image base entryList a → Placed image base entryList a′
+    → (a a′ : ℕ) → Placed image base entryList a → Placed image base entryList a′
     → (db k : ℕ) → 1 ≤ k
     -- just the places and records counted
     → (places records : List ℕ) → places ≡ take (16 * placeCount) table → records ≡ take (12 * recordCount) list
