@@ -14,7 +14,8 @@ use Rattle.machine.specs.Effect.{trapOf, effectOf}
 use Rattle.model.specs.Cases.{over, start, shown, endOf, ended, cases, noCase, Row, bytesBack, given, answered, listed, entriesTold, told, begins, oldTold, newTold}
 use Rattle.model.specs.Cores.{shownOf, oldMark, oldShown, naming, newMark, newShown, goesBy, newByHeld, newTrailAt}
 use Rattle.model.specs.NewCore.{following, fit, doesWord, holds, chooses, seek, lost, goes, stops, does, newNext, begunAt, newBegun}
-use Rattle.model.specs.Run.{step, run}
+use Rattle.model.specs.Run.{step, run, zeroed}
+use Rattle.model.specs.StateBytes.{machineIn, newBytes, newAfter, newBegins}
 use Rattle.model.specs.OldCore.{inImage, wordIn, transferOf, target, follows, branches, jumps, executes, fetches, oldNext, oldBegun}
 use Prim.Native.Nat.{ℕ, zero, suc, _<_}
 use mathlib.Core.Path.{_≡_, refl}
@@ -55,5 +56,5 @@ each-row (r ∷ rs) e zero h = same-list (r .got) (r .want) (both (sameList (r .
 each-row (r ∷ rs) e (suc i) h = each-row rs (both (sameList (r .got) (r .want)) (allSame rs) e .1) i (le-of-suc-le-suc h)
 
 pub cases-hold : (i : ℕ) → i < length cases → getD cases i noCase .got ≡ getD cases i noCase .want
-unfolding cases bytesBack given answered listed endOf entriesTold told begins oldTold newTold newTrailAt shownOf oldMark oldShown naming newMark newShown goesBy newByHeld newBegun begunAt newNext does doesWord fit holds chooses seek lost goes stops following rowsIn rowAt recordsIn recordAt recordOf answerNumbers translation fromWalk acceptance refusal filled placeRoom badLength badCount badEntry anyBad numbersIn placesOf walk handle tested grown grow plains allowed mayBeHeldAt mayBeHeld idleBicc followers namesAt names biccNames whichOf member samePlace placeAt nextOf kindOf rowsOf recordsOf rowsFrom recordsFrom first put numbered past group groupAt heldGroupAt groupOf heldGroupOf biccGroup tableNumbers recordsNumbers recordNumbers numbersOf upTo over start shown ended step run oldNext oldBegun fetches executes jumps branches follows target transferOf wordIn inImage settle within effectOf arithmeticOf outcomeOf sumOf differenceOf logicOf carryOf top addOverflow subOverflow trapOf loadOf sizeOf registerOf putRegister valueOf addressOf holdsOf rows bitAt nzvcOf bitOf instructionOf byFormat format0Of format2Of format3Of operandOf bits bitSet signed plus minus numberAt bytesOf
+unfolding cases newBegins newAfter newBytes machineIn zeroed bytesBack given answered listed endOf entriesTold told begins oldTold newTold newTrailAt shownOf oldMark oldShown naming newMark newShown goesBy newByHeld newBegun begunAt newNext does doesWord fit holds chooses seek lost goes stops following rowsIn rowAt recordsIn recordAt recordOf answerNumbers translation fromWalk acceptance refusal filled placeRoom badLength badCount badEntry anyBad numbersIn placesOf walk handle tested grown grow plains allowed mayBeHeldAt mayBeHeld idleBicc followers namesAt names biccNames whichOf member samePlace placeAt nextOf kindOf rowsOf recordsOf rowsFrom recordsFrom first put numbered past group groupAt heldGroupAt groupOf heldGroupOf biccGroup tableNumbers recordsNumbers recordNumbers numbersOf upTo over start shown ended step run oldNext oldBegun fetches executes jumps branches follows target transferOf wordIn inImage settle within effectOf arithmeticOf outcomeOf sumOf differenceOf logicOf carryOf top addOverflow subOverflow trapOf loadOf sizeOf registerOf putRegister valueOf addressOf holdsOf rows bitAt nzvcOf bitOf instructionOf byFormat format0Of format2Of format3Of operandOf bits bitSet signed plus minus numberAt bytesOf
 cases-hold = each-row cases refl

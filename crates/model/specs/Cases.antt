@@ -1,5 +1,5 @@
 -- 01, Cases: those to be proved, as one table of numbers; case 0 has other readings of 01. What a row shows is computed from the definitions.
-use Prim.Native.Nat.{ℕ, suc, _*_}
+use Prim.Native.Nat.{ℕ, _*_}
 use mathlib.Core.List.{List, [], _∷_, _++_}
 use lib.ListN.{length, getD, set, replicate}
 use Rattle.numbers.specs.Number.{bytesOf}
@@ -10,6 +10,7 @@ use Rattle.model.specs.OldCore.{Old, old, oldNext, oldBegun}
 use Rattle.model.specs.Records.{numbersIn}
 use Rattle.model.specs.Translation.{Handed, answerNumbers, translation}
 use Rattle.model.specs.Trails.{Trail, Entry, entry, entries, later, closing}
+use Rattle.model.specs.StateBytes.{newBegins}
 use Rattle.model.specs.Cores.{Start, oldOver, newOver, oldBegin, newBegin, stepsFor, trailOf, newTrailAt}
 
 -- the case's number, what the definitions give, what 01 says
@@ -182,6 +183,14 @@ cases =
     ∷ 0 ∷ 4 ∷ 0 ∷ 0 ∷ 4 ∷ 12 ∷ 1 ∷ 2 ∷ 8 ∷ 12 ∷ 0 ∷ 4 ∷ 12 ∷ 16 ∷ 0 ∷ 5 ∷ 16 ∷ 0 ∷ 2 ∷ 7
     ∷ 2 ∷ 0 ∷ 0 ∷ 5 ∷ 2 ∷ 0 ∷ 1 ∷ 0x01000000 ∷ 0 ∷ 5 ∷ 5 ∷ 0 ∷ 1 ∷ 0x91D02000 ∷ 0 ∷ 3 ∷ 0x81C3E008 ∷ 12 ∷ 5 ∷ 7 ∷ 0 ∷ 1 ∷ 0x01000000 ∷ 0 ∷ 6 ∷ 0 ∷ 0
     ∷ [])
+    -- "jmpl: held n, then plain p + 8 if rd is not 0"; "Outside ..: one 7 (end 2 ..)"
+    ∷ row 0 (listed 3 5 (0x83C06000 ∷ nop ∷ []))
+    (0 ∷ 3 ∷ 5
+    ∷ 0 ∷ 4 ∷ 0 ∷ 0 ∷ 4 ∷ 0 ∷ 2 ∷ 2 ∷ 8 ∷ 12 ∷ 0 ∷ 4
+    ∷ 3 ∷ 0x83C06000 ∷ 0 ∷ 5 ∷ 2 ∷ 0 ∷ 1 ∷ 0x01000000 ∷ 0 ∷ 6 ∷ 0 ∷ 0 ∷ 7 ∷ 2 ∷ 8
+    ∷ [])
+    -- "Bicc 0 with annul: plain n + 4."; an illegal word: "one 7 (.. 3, address p)"
+    ∷ row 0 (listed 2 2 (0x20800004 ∷ nop ∷ 0 ∷ [])) (0 ∷ 2 ∷ 2 ∷ 0 ∷ 4 ∷ 0 ∷ 0 ∷ 8 ∷ 12 ∷ 0 ∷ 1 ∷ 5 ∷ 1 ∷ 0 ∷ 7 ∷ 3 ∷ 8 ∷ [])
     -- the listing's image, on both cores
     ∷ row 0 (oldTold p1 (begins 0 7 0) 9) (0 ∷ 0 ∷ 7 ∷ 1 ∷ 4 ∷ 7 ∷ 1 ∷ 12 ∷ 8 ∷ 1 ∷ 0 ∷ [])
     ∷ row 0 (newTold 3 4 p1 (begins 0 7 0) 9) (0 ∷ 0 ∷ 7 ∷ 1 ∷ 4 ∷ 7 ∷ 2 ∷ 12 ∷ 8 ∷ 1 ∷ 0 ∷ [])
@@ -192,6 +201,8 @@ cases =
     -- begun at an address without a plain place, "as kind 6 would": an entry there, and 6 inside the image, 2 outside
     ∷ row 0 (newTold 2 4 strays (begins 8 5 0) 9) (0 ∷ 8 ∷ 5 ∷ 6 ∷ 8 ∷ [])
     ∷ row 0 (newTold 2 4 strays (begins 16 5 0) 9) (0 ∷ 16 ∷ 5 ∷ 2 ∷ 16 ∷ [])
+    -- the bytes that such a begin leaves: all registers and flags as they were, record 0, held address 0, end 6 and the address
+    ∷ row 0 (numbersIn (newBegins [] 0 16 8 (bytesOf (replicate 37 7)) .state)) (0 ∷ replicate 31 7 ++ (7 ∷ 0 ∷ 0 ∷ 6 ∷ 8 ∷ []))
     -- each refusal, with both buffers: "Every refusal fills both buffers with 0"
     ∷ row 0 (bytesBack (translation (1 ∷ 2 ∷ []) 0 (bytesOf (0 ∷ [])) 3 5 0)) (1 ∷ 2 ∷ 0 ∷ replicate 8 0)
     ∷ row 0 (bytesBack (translation (bytesOf p1) 2 (bytesOf (0 ∷ [])) 48 48 0)) (2 ∷ 2 ∷ 0 ∷ replicate 96 0)
