@@ -1,6 +1,4 @@
 -- Laws of a step: the words that do not transfer control, and the test of annul.
-use Rattle.model.specs.Places.{always}
-use Rattle.model.specs.NewCore.{holds}
 use lib.Dec.{eqb}
 use borrow.Author.Tests.{ne-eqb}
 use Rattle.numbers.specs.Number.{plus}

@@ -4,6 +4,7 @@ ghost use Prim.Native.Nat.{ℕ, _%_};
 ghost use mathlib.Core.List.{List};
 ghost use lib.Dec.{eqb};
 ghost use Rattle.numbers.specs.Choice.{pick};
+ghost use Rattle.numbers.specs.Number.{plus};
 ghost use Rattle.words.specs.Conditions.{holdsOf};
 ghost use Rattle.machine.specs.Ends.{ending, halt, isGoing, live, left, settle};
 ghost use Rattle.machine.specs.Registers.{addressOf};
@@ -24,15 +25,22 @@ use model::OldCore;
 use words::Instruction;
 use words::Operand;
 
+// The address of the next word.
+fn next_word(p: SourcePc) -> SourcePc
+    ensures { λ r. ⌜ r .0 ≡ plus (p .0) 4 ⌝ }
+{
+    SourcePc(numbers::add(p.0, 4))
+}
+
 // The run goes on: PC becomes nPC, and nPC the address given.
-fn advance(c: OldControl, f: Flags, next: u32, annul: u32) -> OldControl
-    ensures { λ r. ⌜ ((rs a : List ℕ) → oldState rs r a ≡ live (old (machine rs (f .nzvc) a) (c .npc .0) next (isSet annul))) ⌝ }
+fn advance(c: OldControl, f: Flags, next: SourcePc, annul: u32) -> OldControl
+    ensures { λ r. ⌜ ((rs a : List ℕ) → oldState rs r a ≡ live (old (machine rs (f .nzvc) a) (c .npc .0) (next .0) (isSet annul))) ⌝ }
 {
     let p = c.npc;
     OldControl {
         flags: f,
         pc: p,
-        npc: SourcePc(next),
+        npc: next,
         annul,
         end: End::Going,
     }
@@ -43,7 +51,7 @@ fn follow(c: OldControl, f: Flags) -> OldControl
     ensures { λ r. ⌜ ((rs a : List ℕ) → oldState rs r a ≡ live (follows (c .npc .0) (machine rs (f .nzvc) a))) ⌝ }
 {
     let n = c.npc;
-    advance(c, f, numbers::add(n.0, 4), 0)
+    advance(c, f, next_word(n), 0)
 }
 
 // The run ends, and nothing else changes.
@@ -63,10 +71,10 @@ fn stop(c: OldControl, e: End) -> OldControl
 }
 
 // Where a displacement, which counts words, leads from an address.
-fn target(p: u32, disp: u32) -> u32
-    ensures { λ r. ⌜ r ≡ target p disp ⌝ }
+fn target(p: SourcePc, disp: u32) -> SourcePc
+    ensures { λ r. ⌜ r .0 ≡ target (p .0) disp ⌝ }
 {
-    numbers::add(p, disp << 2)
+    SourcePc(numbers::add(p.0, disp << 2))
 }
 
 fn branch(c: OldControl, cond: u32, annul: bool, disp: u32) -> OldControl
@@ -76,13 +84,13 @@ fn branch(c: OldControl, cond: u32, annul: bool, disp: u32) -> OldControl
     let p = c.pc;
     let n = c.npc;
     if holds(f, cond) {
-        let t = target(p.0, disp);
+        let t = target(p, disp);
         if cond == 8 {
             return advance(c, f, t, machine::bit(annul));
         }
         return advance(c, f, t, 0);
     }
-    advance(c, f, numbers::add(n.0, 4), machine::bit(annul))
+    advance(c, f, next_word(n), machine::bit(annul))
 }
 
 // The address is taken from the registers before rd is written.
@@ -94,7 +102,7 @@ fn jump(c: OldControl, regs: &mut [u32; 32], rd: u32, rs1: u32, x: Operand) -> O
     let t = address(regs, rs1, x);
     if t % 4 == 0 {
         put(regs, rd, p.0);
-        return advance(c, f, t, 0);
+        return advance(c, f, SourcePc(t), 0);
     }
     stop(c, End::Misaligned(t))
 }
@@ -121,12 +129,11 @@ fn execute(
     ensures { λ r. ⌜ oldState (now (regs .exit)) r (now (area .exit)) ≡ settle (oldOf (now (regs .entry)) c (now (area .entry))) (executes db (transferOf i) i (machine (now (regs .entry)) (c .flags .nzvc) (now (area .entry))) (c .pc .0) (c .npc .0)) ⌝ }
 {
     let f = c.flags;
-    let q = c.pc;
-    let p = q.0;
+    let p = c.pc;
     match i {
         Instruction::Illegal => stop(c, End::IllegalWord(p)),
         Instruction::Call(disp) => {
-            put(regs, 15, p);
+            put(regs, 15, p.0);
             advance(c, f, target(p, disp), 0)
         }
         Instruction::Bicc(cond, annul, disp) => branch(c, cond, annul, disp),
@@ -146,17 +153,16 @@ fn fetch(
 ) -> OldControl
     ensures { λ r. ⌜ oldState (now (regs .exit)) r (now (area .exit)) ≡ settle (oldOf (now (regs .entry)) c (now (area .entry))) (pick (eqb (c .pc .0 % 4) 0) (fetches db (wordIn (now (image .entry)) base (c .pc .0)) (machine (now (regs .entry)) (c .flags .nzvc) (now (area .entry))) (c .pc .0) (c .npc .0)) (halt (ending 4 (c .pc .0)))) ⌝ }
 {
-    let q = c.pc;
-    let p = q.0;
-    if p % 4 == 0 {
-        let at = numbers::subtract(p, base) as usize;
+    let p = c.pc;
+    if p.0 % 4 == 0 {
+        let at = numbers::subtract(p.0, base) as usize;
         if at + 4 <= image.len() {
             let i = words::read_instruction(numbers::read_number(image, at));
             return execute(i, db, regs, c, area);
         }
         return stop(c, End::Outside(p));
     }
-    stop(c, End::Misaligned(p))
+    stop(c, End::Misaligned(p.0))
 }
 
 // An annulled word is passed unread.
@@ -203,18 +209,18 @@ fn steps(
 }
 
 // PC at the address, nPC 4 further, annul clear, not ended; registers and flags stay.
-pub fn begin(core: OldCore, pc: u32) -> OldCore
-    ensures { λ r. ⌜ ((a : List ℕ) → oldState (r .registers) (r .control) a ≡ oldBegun pc (machine (zeroed (core .registers)) (core .control .flags .nzvc) a)) ⌝ }
+pub fn begin(core: OldCore, pc: SourcePc) -> OldCore
+    ensures { λ r. ⌜ ((a : List ℕ) → oldState (r .registers) (r .control) a ≡ oldBegun (pc .0) (machine (zeroed (core .registers)) (core .control .flags .nzvc) a)) ⌝ }
 {
     let k = core.control;
     let f = k.flags;
     let mut regs = core.registers;
     regs[0] = 0;
-    let npc = numbers::add(pc, 4);
+    let npc = next_word(pc);
     let c = OldControl {
         flags: f,
-        pc: SourcePc(pc),
-        npc: SourcePc(npc),
+        pc,
+        npc,
         annul: 0,
         end: End::Going,
     };

@@ -9,12 +9,12 @@ use Rattle.old_core.proofs.begin.Tie as tie
 array-write-regs : tie.Need-array-write-regs
 array-write-regs c = search needs
 
-add-requires : tie.Need-add-requires
-add-requires c κs = search needs
+next-word-requires : tie.Need-next-word-requires
+next-word-requires c κs = search needs
 
 returns : tie.Need-returns
 unfolding oldBegun zeroed endingOf isSet
-returns c = λ a. rw (c .add .ensures)
+returns c = λ a. rw (c .next-word .ensures)
 
 pub begin-spec : {M : Type 1} → statement M
-begin-spec = tie.close (tie.spec array-write-regs add-requires returns)
+begin-spec = tie.close (tie.spec array-write-regs next-word-requires returns)
