@@ -18,8 +18,8 @@ listedIn held bytes at =
     let text = at + 12 + paddedTo extent in
     let listing = listingOf (partOf bytes (at + 12) extent) in
     oneEntry (text + paddedTo size)
-    (eqb (numberIn bytes at) 1279873876 && eqb (length listing) size && holding (inserted held 0 listing) (partOf bytes text size) 165)
+    (eqb (numberIn bytes at) 0x4C495354 && eqb (length listing) size && holding (inserted held 0 listing) (partOf bytes text size) 0xA5)
 
 -- in the buffer that a case is listed in
 unfoldable pub listedFound : List ℕ → ℕ → Found
-listedFound bytes at = listedIn (replicate 131072 165) bytes at
+listedFound bytes at = listedIn (replicate 131072 0xA5) bytes at

@@ -23,7 +23,7 @@ ranFound next tag right known at after a =
 unfoldable pub oldFound : List ℕ → ℕ → List ℕ → Checked
 oldFound bytes at area =
     let p = oldParts bytes at 152 in
-    ranFound (p .next) (numberIn bytes at) 1330398275 (partOf bytes (p .known) 152) 144 (partOf bytes (p .after) (p .size))
+    ranFound (p .next) (numberIn bytes at) 0x4F4C4443 (partOf bytes (p .known) 152) 144 (partOf bytes (p .after) (p .size))
     (oldRuns (partOf bytes (p .image) (p .extent)) (numberIn bytes (at + 8)) (numberIn bytes (at + 12)) (numberIn bytes (at + 20) % 65536)
     (copied (replicate 152 0) (partOf bytes (at + 24) 152)) (copied area (partOf bytes (p .before) (p .size))))
 
@@ -52,7 +52,7 @@ newParts bytes at =
 unfoldable pub newFound : List ℕ → ℕ → List ℕ → Checked
 newFound bytes at area =
     let p = newParts bytes at in
-    ranFound (p .next) (numberIn bytes at) 1313167171 (partOf bytes (p .known) 148) 140 (partOf bytes (p .after) (p .size))
+    ranFound (p .next) (numberIn bytes at) 0x4E455743 (partOf bytes (p .known) 148) 140 (partOf bytes (p .after) (p .size))
     (newRuns (partOf bytes (p .records) (p .extent)) (partOf bytes (p .places) (p .rows)) (numberIn bytes (at + 12))
     (numberIn bytes (at + 16)) (numberIn bytes (at + 20)) (numberIn bytes (at + 28) % 65536)
     (copied (replicate 148 0) (partOf bytes (at + 32) 148)) (copied area (partOf bytes (p .before) (p .size))))

@@ -54,7 +54,7 @@ module _ (image : List ℕ) (base db : ℕ) where
 -- the verdict on a trail: the tag is TRAL, so many entries agree, and the area is the known one
 unfoldable pub trailVerdict : ℕ → ℕ → ℕ → List ℕ → Trailed → Checked
 trailVerdict next tag count after t =
-    checked (found next (t .entries) (eqb tag 1414676812 && eqb (t .entries) count && sameBytes (t .area) after)) (t .area)
+    checked (found next (t .entries) (eqb tag 0x5452414C && eqb (t .entries) count && sameBytes (t .area) after)) (t .area)
 
 -- the bases are numbers 2 and 3, the count of entries, of 136 bytes each, is number 5
 unfoldable pub trailFound : List ℕ → ℕ → List ℕ → Checked

@@ -74,7 +74,7 @@ module _ (bytes : List ℕ) (at : ℕ) where
   backAgrees placesLength recordsLength b =
       let p = translationParts bytes at in
       let numbers = b .numbers in
-      eqb (numberIn bytes at) 1414680147 && eqb placesLength (numberIn bytes (at + 16)) && eqb recordsLength (numberIn bytes (at + 20))
+      eqb (numberIn bytes at) 0x54524E53 && eqb placesLength (numberIn bytes (at + 16)) && eqb recordsLength (numberIn bytes (at + 20))
       && answered (partOf bytes (at + 24) 12) entriesOf baseOf (p .extent) (getD numbers 0 0) (getD numbers 1 0) (getD numbers 2 0)
       && holding (b .places) (partOf bytes (p .places) (p .rows)) 0
       && holding (b .records) (partOf bytes (p .records) (p .bulk)) 0
