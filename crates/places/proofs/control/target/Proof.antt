@@ -4,11 +4,11 @@ use borrow.Author.Needs.{needs}
 use Rattle.places.proofs.control.target.Statement.{statement}
 use Rattle.places.proofs.control.target.Tie as tie
 
-add-requires : tie.Need-add-requires
-add-requires c κs = search needs
+further-requires : tie.Need-further-requires
+further-requires c κs = search needs
 
 returns : tie.Need-returns
-returns c = c .add .ensures ∙ in-words _ _
+returns c = c .further .ensures ∙ in-words _ _
 
 pub target-spec : {M : Type 1} → statement M
-target-spec = tie.close (tie.spec add-requires returns)
+target-spec = tie.close (tie.spec further-requires returns)
