@@ -12,12 +12,12 @@ use Rattle.numbers.specs.Choice.{pick}
 use Rattle.numbers.specs.Number.{Below, plus, numberAt}
 use Rattle.numbers.proofs.Bounds.{plus-lt}
 use Rattle.words.specs.Conditions.{bitOf}
-use Rattle.machine.specs.Ends.{Ending, ending, go, State, state, live}
+use Rattle.machine.specs.Ends.{Ending, ending, go, State, live}
 use Rattle.machine.specs.Effect.{Machine}
 use Rattle.model.specs.Run.{dataOf}
 use Rattle.model.specs.OldCore.{Old, old, inImage, oldNext, oldBegun}
 use Rattle.model.specs.Places.{plain}
-use Rattle.model.specs.Records.{first, rowsIn, recordsIn}
+use Rattle.model.specs.Records.{first, rowsIn}
 use Rattle.model.specs.NewCore.{New, new, newNext, seek, begunAt, newBegun}
 use Rattle.model.specs.declared.Answer.{Answer}
 use Rattle.model.specs.declared.Answer.the-variants.{Accepted, ImageLength, Base, Entry, Forbidden, NoRoom, RecordsShort}

@@ -4,7 +4,7 @@ use mathlib.Core.Bool.{true, false}
 use mathlib.Core.List.{List, [], _∷_}
 use mathlib.Core.Option.{Option, none, some}
 use lib.Dec.{eqb}
-use lib.ListN.{length, getD, getElem?}
+use lib.ListN.{getD, getElem?}
 use Rattle.numbers.specs.Choice.{pick}
 use Rattle.numbers.specs.Number.{upTo}
 use Rattle.machine.specs.Ends.{ending, State, state}

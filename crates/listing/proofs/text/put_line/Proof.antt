@@ -1,6 +1,6 @@
 use Rattle.listing.proofs.Lines.{line-goes, line-end}
 use Rattle.listing.proofs.Writing.{written-end}
-use Rattle.listing.specs.Text.{separator, lineOf, inserted}
+use Rattle.listing.specs.Text.{lineOf, inserted}
 use borrow.Author.Needs.{needs}
 use lib.ListN.{length, drop, length-set}
 use native.Mathlib.Omega.{arith}

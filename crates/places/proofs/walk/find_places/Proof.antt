@@ -1,4 +1,3 @@
-use Rattle.model.specs.Walk.{walk}
 use Rattle.places.proofs.Walking.{ready-places, known-by, ended-forbidden, ended-full, from-entries, grown-places, grown-forbidden, grown-full}
 use mathlib.Core.Path.{sym, _∙_}
 use borrow.Author.Needs.{needs}

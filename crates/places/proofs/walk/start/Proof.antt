@@ -12,7 +12,6 @@ use mathlib.Core.Path.{_≡_, refl, sym, _∙_}
 use Prim.Native.Nat.{_-_}
 use Rattle.places.proofs.walk.start.Statement.{statement}
 use Rattle.places.proofs.walk.start.Tie as tie
-use Rattle.places.proofs.walk.start.Reads as reads
 
 abbrev Inv-loop : tie.InvT-loop
 Inv-loop entries k places₀ heads₀ links₀ room n₀ j₀ places heads links n j =

@@ -1,4 +1,4 @@
-use Rattle.model.specs.Walk.{handle, walk}
+use Rattle.model.specs.Walk.{walk}
 use Rattle.places.proofs.Walking.{ready-places, ended-forbidden, ended-full, still, grown-places, grown-forbidden, grown-full, walk-on, walk-end}
 use Rattle.places.specs.Table.{placesIn}
 use Rattle.places.specs.Index.{Ready}

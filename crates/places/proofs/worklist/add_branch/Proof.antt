@@ -3,7 +3,6 @@ use Rattle.places.proofs.Walking.{known-two}
 use borrow.Author.Needs.{needs}
 use Rattle.places.proofs.worklist.add_branch.Statement.{statement}
 use Rattle.places.proofs.worklist.add_branch.Tie as tie
-use Rattle.places.proofs.worklist.add_branch.Reads as reads
 
 untaken-requires : tie.Need-untaken-requires
 untaken-requires c κs = search needs

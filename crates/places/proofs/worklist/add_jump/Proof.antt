@@ -5,7 +5,6 @@ use borrow.Author.Tests.{eq-eqb, ne-eqb}
 use borrow.Author.Needs.{needs}
 use Rattle.places.proofs.worklist.add_jump.Statement.{statement}
 use Rattle.places.proofs.worklist.add_jump.Tie as tie
-use Rattle.places.proofs.worklist.add_jump.Reads as reads
 
 add-held-requires : tie.Need-add-held-requires
 add-held-requires c κs = search needs

@@ -7,7 +7,6 @@ use mathlib.Core.Path.{refl}
 use borrow.Author.Needs.{needs}
 use Rattle.places.proofs.worklist.add_names.Statement.{statement}
 use Rattle.places.proofs.worklist.add_names.Tie as tie
-use Rattle.places.proofs.worklist.add_names.Reads as reads
 
 enum-told : tie.Need-enum-told
 enum-told c = search needs
