@@ -11,7 +11,7 @@ use Rattle.machine.specs.Arithmetic.{top, addOverflow, subOverflow, sumOf, diff
 use Rattle.machine.specs.Registers.{registerOf, putRegister, valueOf, addressOf}
 use Rattle.machine.specs.Ends.{within, settle}
 use Rattle.machine.specs.Effect.{trapOf, effectOf}
-use Rattle.model.specs.Cases.{over, start, shown, endOf, ended, cases, noCase, Row, bytesBack, given, answered, listed, entriesTold, told, begins, oldTold, newTold}
+use Rattle.model.specs.Cases.{over, start, shown, endOf, ended, newEnded, stepAt, cases, noCase, Row, bytesBack, given, answered, listed, entriesTold, told, begins, oldTold, newTold}
 use Rattle.model.specs.Cores.{shownOf, oldMark, oldShown, naming, newMark, newShown, goesBy, newByHeld, newTrailAt}
 use Rattle.model.specs.NewCore.{following, fit, doesWord, holds, chooses, seek, lost, goes, stops, does, newNext, begunAt, newBegun}
 use Rattle.model.specs.Run.{step, run, zeroed}
@@ -93,7 +93,7 @@ trails-open = tt
 
 -- what a row shows
 rows-open : Unit {0}
-unfolding cases bytesBack given answered listed endOf entriesTold told begins oldTold newTold over start shown ended
+unfolding cases newEnded stepAt bytesBack given answered listed endOf entriesTold told begins oldTold newTold over start shown ended
 rows-open = tt
 
 pub cases-hold : (i : ℕ) → i < length cases → getD cases i noCase .got ≡ getD cases i noCase .want

@@ -3,13 +3,14 @@ use Prim.Native.Nat.{ℕ, _*_}
 use mathlib.Core.List.{List, [], _∷_, _++_}
 use lib.ListN.{length, getD, set, replicate}
 use Rattle.numbers.specs.Number.{bytesOf}
-use Rattle.machine.specs.Ends.{Ending, ending, Next, State, state}
+use Rattle.machine.specs.Ends.{Ending, ending, Next, State, state, live}
 use Rattle.machine.specs.Effect.{machine}
 use Rattle.model.specs.Run.{run}
 use Rattle.model.specs.OldCore.{Old, old, oldNext, oldBegun}
 use Rattle.model.specs.Records.{numbersIn}
+use Rattle.model.specs.NewCore.{New, new, newNext}
 use Rattle.model.specs.Translation.{Handed, answerNumbers, translation}
-use Rattle.model.specs.Trails.{Trail, Entry, entry, entries, later, closing}
+use Rattle.model.specs.Trails.{Trail, trail, Entry, entry, entries, later, closing}
 use Rattle.model.specs.StateBytes.{newBegins}
 use Rattle.model.specs.Cores.{Start, oldOver, newOver, oldBegin, newBegin, stepsFor, trailOf, newTrailAt}
 
@@ -37,6 +38,13 @@ endOf (ending n v) = n ∷ v ∷ []
 
 unfoldable pub ended : State Old → List ℕ
 ended (state s e) = endOf e
+
+unfoldable pub newEnded : State New → List ℕ
+newEnded (state s e) = endOf e
+
+-- how the new core stands after the step at record r, of records of three numbers each
+unfoldable pub stepAt : ℕ → List ℕ → List ℕ
+stepAt r records = newEnded (run (newNext (bytesOf records) [] 0 0 0) 1 (live (new (machine (replicate 32 0) 0 []) r 0)))
 
 -- ---------------------------------------------------------------- translations
 -- the answer's numbers, and the bytes of both buffers
@@ -191,6 +199,25 @@ cases =
     ∷ [])
     -- "Bicc 0 with annul: plain n + 4."; an illegal word: "one 7 (.. 3, address p)"
     ∷ row 0 (listed 2 2 (0x20800004 ∷ nop ∷ 0 ∷ [])) (0 ∷ 2 ∷ 2 ∷ 0 ∷ 4 ∷ 0 ∷ 0 ∷ 8 ∷ 12 ∷ 0 ∷ 1 ∷ 5 ∷ 1 ∷ 0 ∷ 7 ∷ 3 ∷ 8 ∷ [])
+    -- a held place: "Outside or illegal: one 7 .. Ticc 8: one 1. Held: 1, 6. .. The first that fits applies."
+    ∷ row 0 (listed 2 3 (0x81C3E008 ∷ [])) (0 ∷ 2 ∷ 3 ∷ 0 ∷ 4 ∷ 0 ∷ 0 ∷ 4 ∷ 0 ∷ 2 ∷ 2 ∷ 3 ∷ 0x81C3E008 ∷ 0 ∷ 5 ∷ 2 ∷ 0 ∷ 7 ∷ 2 ∷ 4 ∷ [])
+    ∷ row 0 (listed 2 3 (0x81C3E008 ∷ 0 ∷ [])) (0 ∷ 2 ∷ 3 ∷ 0 ∷ 4 ∷ 0 ∷ 0 ∷ 4 ∷ 0 ∷ 2 ∷ 2 ∷ 3 ∷ 0x81C3E008 ∷ 0 ∷ 5 ∷ 2 ∷ 0 ∷ 7 ∷ 3 ∷ 4 ∷ [])
+    ∷ row 0 (listed 2 3 (0x81C3E008 ∷ 0x91D02000 ∷ []))
+    (0 ∷ 2 ∷ 3 ∷ 0 ∷ 4 ∷ 0 ∷ 0 ∷ 4 ∷ 0 ∷ 2 ∷ 2 ∷ 3 ∷ 0x81C3E008 ∷ 0 ∷ 5 ∷ 2 ∷ 0 ∷ 1 ∷ 0x91D02000 ∷ 0 ∷ [])
+    -- "7 a record past the last, of unknown kind, with an unfit word (kind 1: illegal, call, jmpl or any Bicc but 0 without annul; kind 3:
+    -- anything but jmpl), a condition above 15 or a kind 7 whose first is not 2 or 3, with the record number"
+    ∷ row 0 (stepAt 1 (1 ∷ nop ∷ 0 ∷ [])) (7 ∷ 1 ∷ [])
+    ∷ row 0 (stepAt 0 (8 ∷ 0 ∷ 0 ∷ [])) (7 ∷ 0 ∷ [])
+    ∷ row 0 (stepAt 0 (1 ∷ 0 ∷ 0 ∷ [])) (7 ∷ 0 ∷ [])
+    ∷ row 0 (stepAt 0 (1 ∷ 0x40000003 ∷ 0 ∷ [])) (7 ∷ 0 ∷ [])
+    ∷ row 0 (stepAt 0 (1 ∷ 0x81C3E008 ∷ 0 ∷ [])) (7 ∷ 0 ∷ [])
+    ∷ row 0 (stepAt 0 (1 ∷ 0x20800004 ∷ 0 ∷ [])) (7 ∷ 0 ∷ [])
+    ∷ row 0 (stepAt 0 (1 ∷ 0x00800004 ∷ 0 ∷ [])) (0 ∷ 0 ∷ [])
+    ∷ row 0 (stepAt 0 (3 ∷ nop ∷ 0 ∷ [])) (7 ∷ 0 ∷ [])
+    ∷ row 0 (stepAt 0 (4 ∷ 16 ∷ 0 ∷ [])) (7 ∷ 0 ∷ [])
+    ∷ row 0 (stepAt 0 (7 ∷ 4 ∷ 0 ∷ [])) (7 ∷ 0 ∷ [])
+    -- "exactly the given count was done .. and no end met": the trail of a run of one word closes with 0
+    ∷ row 0 (told (trail (oldOver (bytesOf p1) 0 0) 1 9 0 (oldBegin (begins 0 7 0)))) (0 ∷ 0 ∷ 7 ∷ 0 ∷ 0 ∷ [])
     -- the listing's image, on both cores
     ∷ row 0 (oldTold p1 (begins 0 7 0) 9) (0 ∷ 0 ∷ 7 ∷ 1 ∷ 4 ∷ 7 ∷ 1 ∷ 12 ∷ 8 ∷ 1 ∷ 0 ∷ [])
     ∷ row 0 (newTold 3 4 p1 (begins 0 7 0) 9) (0 ∷ 0 ∷ 7 ∷ 1 ∷ 4 ∷ 7 ∷ 2 ∷ 12 ∷ 8 ∷ 1 ∷ 0 ∷ [])
@@ -204,6 +231,7 @@ cases =
     -- the bytes that such a begin leaves: all registers and flags as they were, record 0, held address 0, end 6 and the address
     ∷ row 0 (numbersIn (newBegins [] 0 16 8 (bytesOf (replicate 37 7)) .state)) (0 ∷ replicate 31 7 ++ (7 ∷ 0 ∷ 0 ∷ 6 ∷ 8 ∷ []))
     -- each refusal, with both buffers: "Every refusal fills both buffers with 0"
+    ∷ row 0 (bytesBack (translation [] 0 (bytesOf (0 ∷ [])) 3 5 0)) (1 ∷ 0 ∷ 0 ∷ replicate 8 0)
     ∷ row 0 (bytesBack (translation (1 ∷ 2 ∷ []) 0 (bytesOf (0 ∷ [])) 3 5 0)) (1 ∷ 2 ∷ 0 ∷ replicate 8 0)
     ∷ row 0 (bytesBack (translation (bytesOf p1) 2 (bytesOf (0 ∷ [])) 48 48 0)) (2 ∷ 2 ∷ 0 ∷ replicate 96 0)
     ∷ row 0 (bytesBack (translation (bytesOf p1) 0 (bytesOf []) 48 48 0)) (3 ∷ 0 ∷ 0 ∷ replicate 96 0)
