@@ -1,6 +1,7 @@
 // What both cores share: registers, flags, the data area, how a run ended, and the words that do not transfer control.
 ghost use mathlib.Core.Path.{_≡_};
 ghost use Prim.Native.Nat.{_<_};
+ghost use Rattle.numbers.specs.Number.{plus};
 ghost use Rattle.words.specs.Conditions.{bitOf};
 ghost use Rattle.machine.specs.Ends.{ending, endingOf, endingFrom, isGoing};
 
@@ -11,6 +12,13 @@ pub mod registers;
 
 // An address of the source program. It is never read as a record number.
 pub struct SourcePc(pub u32);
+
+// The address so many bytes further.
+pub fn further(p: SourcePc, bytes: u32) -> SourcePc
+    ensures { λ r. ⌜ r .0 ≡ plus (p .0) bytes ⌝ }
+{
+    SourcePc(numbers::add(p.0, bytes))
+}
 
 // A record's number. It is never read as a source address.
 pub struct TargetPc(pub u32);

@@ -221,7 +221,7 @@ cases =
     -- the listing's image, on both cores
     ∷ row 0 (oldTold p1 (begins 0 7 0) 9) (0 ∷ 0 ∷ 7 ∷ 1 ∷ 4 ∷ 7 ∷ 1 ∷ 12 ∷ 8 ∷ 1 ∷ 0 ∷ [])
     ∷ row 0 (newTold 3 4 p1 (begins 0 7 0) 9) (0 ∷ 0 ∷ 7 ∷ 1 ∷ 4 ∷ 7 ∷ 2 ∷ 12 ∷ 8 ∷ 1 ∷ 0 ∷ [])
-    -- the one exception: the new core goes by the held address 12, which no place has; "where the cut leaves room for the entry"
+    -- the one exception: the new core goes by the held address 12, which no place has; "and the cut leaves room for the entry at that address"
     ∷ row 0 (newTold 2 4 strays (begins 0 12 0) 9) (0 ∷ 0 ∷ 12 ∷ 2 ∷ 4 ∷ 12 ∷ 2 ∷ 12 ∷ 13 ∷ 6 ∷ 12 ∷ [])
     ∷ row 0 (newTold 2 4 strays (begins 0 12 0) 2) (0 ∷ 0 ∷ 12 ∷ 2 ∷ 4 ∷ 12 ∷ 0 ∷ 0 ∷ [])
     ∷ row 0 (oldTold strays (begins 0 12 0) 3) (0 ∷ 0 ∷ 12 ∷ 1 ∷ 4 ∷ 12 ∷ 1 ∷ 12 ∷ 13 ∷ 0 ∷ 0 ∷ [])

@@ -1,11 +1,20 @@
 // The states of the cores. specs/ has document 01 as definitions, in 01's order.
 ghost use mathlib.Core.Path.{_≡_};
+ghost use Rattle.model.specs.OldCore.{target};
 ghost use Rattle.model.specs.OldState.{startValues};
 ghost use Rattle.model.specs.NewState.{newStartValues};
 use machine::End;
 use machine::Flags;
 use machine::SourcePc;
 use machine::TargetPc;
+use machine::further;
+
+// Where a displacement, which counts words, leads from an address.
+pub fn target(p: SourcePc, disp: u32) -> SourcePc
+    ensures { λ r. ⌜ r .0 ≡ target (p .0) disp ⌝ }
+{
+    further(p, disp << 2)
+}
 
 // The old core's state but for its registers, which are lent beside it.
 pub struct OldControl {

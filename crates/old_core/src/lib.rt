@@ -4,7 +4,6 @@ ghost use Prim.Native.Nat.{ℕ, _%_};
 ghost use mathlib.Core.List.{List};
 ghost use lib.Dec.{eqb};
 ghost use Rattle.numbers.specs.Choice.{pick};
-ghost use Rattle.numbers.specs.Number.{plus};
 ghost use Rattle.words.specs.Conditions.{holdsOf};
 ghost use Rattle.machine.specs.Ends.{ending, halt, isGoing, live, left, settle};
 ghost use Rattle.machine.specs.Registers.{addressOf};
@@ -18,19 +17,14 @@ use machine::SourcePc;
 use machine::effect::Effect;
 use machine::effect::holds;
 use machine::effect::perform;
+use machine::further;
 use machine::registers::address;
 use machine::registers::put;
 use model::OldControl;
 use model::OldCore;
+use model::target;
 use words::Instruction;
 use words::Operand;
-
-// The address of the next word.
-fn next_word(p: SourcePc) -> SourcePc
-    ensures { λ r. ⌜ r .0 ≡ plus (p .0) 4 ⌝ }
-{
-    SourcePc(numbers::add(p.0, 4))
-}
 
 // The run goes on: PC becomes nPC, and nPC the address given.
 fn advance(c: OldControl, f: Flags, next: SourcePc, annul: u32) -> OldControl
@@ -51,7 +45,7 @@ fn follow(c: OldControl, f: Flags) -> OldControl
     ensures { λ r. ⌜ ((rs a : List ℕ) → oldState rs r a ≡ live (follows (c .npc .0) (machine rs (f .nzvc) a))) ⌝ }
 {
     let n = c.npc;
-    advance(c, f, next_word(n), 0)
+    advance(c, f, further(n, 4), 0)
 }
 
 // The run ends, and nothing else changes.
@@ -70,13 +64,6 @@ fn stop(c: OldControl, e: End) -> OldControl
     }
 }
 
-// Where a displacement, which counts words, leads from an address.
-fn target(p: SourcePc, disp: u32) -> SourcePc
-    ensures { λ r. ⌜ r .0 ≡ target (p .0) disp ⌝ }
-{
-    SourcePc(numbers::add(p.0, disp << 2))
-}
-
 fn branch(c: OldControl, cond: u32, annul: bool, disp: u32) -> OldControl
     ensures { λ r. ⌜ ((rs a : List ℕ) → oldState rs r a ≡ live (branches (holdsOf cond (c .flags .nzvc)) (eqb cond 8) annul (machine rs (c .flags .nzvc) a) (c .npc .0) (target (c .pc .0) disp))) ⌝ }
 {
@@ -90,7 +77,7 @@ fn branch(c: OldControl, cond: u32, annul: bool, disp: u32) -> OldControl
         }
         return advance(c, f, t, 0);
     }
-    advance(c, f, next_word(n), machine::bit(annul))
+    advance(c, f, further(n, 4), machine::bit(annul))
 }
 
 // The address is taken from the registers before rd is written.
@@ -216,7 +203,7 @@ pub fn begin(core: OldCore, pc: SourcePc) -> OldCore
     let f = k.flags;
     let mut regs = core.registers;
     regs[0] = 0;
-    let npc = next_word(pc);
+    let npc = further(pc, 4);
     let c = OldControl {
         flags: f,
         pc,

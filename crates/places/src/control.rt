@@ -2,10 +2,11 @@
 ghost use mathlib.Core.Path.{_≡_};
 ghost use Rattle.numbers.specs.Choice.{pick};
 ghost use Rattle.numbers.specs.Number.{plus};
-ghost use Rattle.model.specs.OldCore.{wordIn, target};
+ghost use Rattle.model.specs.OldCore.{wordIn};
 ghost use Rattle.model.specs.Places.{mayBeHeld};
 ghost use Rattle.places.specs.Control.{wordOf, transferred};
 use machine::SourcePc;
+use machine::further;
 use words::Flow;
 
 // The word at an address, if that lies in the image.
@@ -22,20 +23,6 @@ pub fn fetch(image: &[u8], base: u32, p: SourcePc) -> Fetched
         return Fetched::Word(numbers::read_number(image, at));
     }
     Fetched::Outside
-}
-
-// The address so many bytes further.
-pub fn further(p: SourcePc, bytes: u32) -> SourcePc
-    ensures { λ r. ⌜ r .0 ≡ plus (p .0) bytes ⌝ }
-{
-    SourcePc(numbers::add(p.0, bytes))
-}
-
-// Where a displacement, which counts words, leads from an address.
-pub fn target(p: SourcePc, disp: u32) -> SourcePc
-    ensures { λ r. ⌜ r .0 ≡ target (p .0) disp ⌝ }
-{
-    further(p, disp << 2)
 }
 
 // Where a branch that is not taken goes on: past its delay slot, if that is annulled.

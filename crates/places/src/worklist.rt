@@ -9,14 +9,14 @@ ghost use Rattle.places.specs.Control.{transferred};
 ghost use Rattle.places.specs.Table.{placeOf, placesIn, Shows};
 ghost use Rattle.places.specs.Index.{Ready, ReadyBy, Known};
 ghost use Rattle.places.specs.Walk.{seen, counted};
-use crate::control::further;
-use crate::control::target;
 use crate::control::untaken;
 use crate::index::enter;
 use crate::index::find;
 use crate::table::pair_kind;
 use crate::table::write_place;
 use machine::SourcePc;
+use machine::further;
+use model::target;
 use words::Flow;
 
 // How the walk stands, or ended: so many places, a held place with a forbidden word, a place for which there is no room.

@@ -28,8 +28,8 @@ returns-2 : tie.Need-returns-2
 returns-2 c = λ rs a. c .advance2 .ensures rs a
     ∙ rw (c .before .before .target .ensures) (branch-taken _ _ _ _ _ _ (sym (c .before .before .before .before .holds .ensures) ∙ c .before .before .before .if1 .taken) (ne-eqb _ _ (c .before .if2 .left)))
 
-next-word-requires : tie.Need-next-word-requires
-next-word-requires c κs = search needs
+further-requires : tie.Need-further-requires
+further-requires c κs = search needs
 
 bit-requires-2 : tie.Need-bit-requires-2
 bit-requires-2 c κs = search needs
@@ -39,7 +39,7 @@ advance-requires-3 c κs = search needs
 
 returns-3 : tie.Need-returns-3
 returns-3 c = λ rs a. c .advance3 .ensures rs a
-    ∙ branch-fails _ _ _ _ _ _ _ _ (sym (c .before .before .before .before .holds .ensures) ∙ c .before .before .before .if1 .left) (c .before .bit2 .ensures .0) (c .before .before .next-word .ensures)
+    ∙ branch-fails _ _ _ _ _ _ _ _ (sym (c .before .before .before .before .holds .ensures) ∙ c .before .before .before .if1 .left) (c .before .bit2 .ensures .0) (c .before .before .further .ensures)
 
 pub branch-spec : {M : Type 1} → statement M
 branch-spec =
@@ -52,7 +52,7 @@ branch-spec =
     returns
     advance-requires-2
     returns-2
-    next-word-requires
+    further-requires
     bit-requires-2
     advance-requires-3
     returns-3)
