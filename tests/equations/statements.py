@@ -13,8 +13,8 @@ use Rattle.machine.specs.Ends.{Ending}
 use Rattle.numbers.specs.Choice.{pick}
 use Rattle.model.specs.Records.{Rec, Row, rowsIn, recordsIn}
 use Rattle.model.specs.Translation.{Handed, answerNumbers, badEntry}
-use Rattle.model.specs.Trails.{Trail, cut, spent, shut, at, Entry, entries, closing, gaps, later, trailFrom}
-use Rattle.model.specs.Cores.{Start, newOver, newBegin, trailOf}
+use Rattle.model.specs.Trails.{Trail, cut, spent, shut, at, Entry, entries, closing, gaps, later}
+use Rattle.model.specs.Cores.{Start, newOver, newBegin, stepsFor, newTrailAt}
 
 unfoldable pub definitions : Unit {0}
 unfolding %s
@@ -65,13 +65,13 @@ translated placeCount recordCount base size db k x h =
     let places = take (16 * placeCount) (h .places) in
     let records = take (12 * recordCount) (h .records) in
     over (rowsIn places) (recordsIn records)
-    (showing (trailOf (newOver records places base size db) k (newBegin places base size x)))
+    (showing (newTrailAt (newOver records places base size db) (stepsFor k) k (x .address) (newBegin places base size x)))
 
 -- any tables: "there the trail is that of a run of a given count"
 abbrev pub malformed : ℕ → ℕ → ℕ → ℕ → Start → List ℕ → List ℕ → Over
 malformed base size db count x places records =
     over (rowsIn places) (recordsIn records)
-    (showing (trailFrom (newOver records places base size db) count (suc (suc count)) (newBegin places base size x)))
+    (showing (newTrailAt (newOver records places base size db) count (suc (suc count)) (x .address) (newBegin places base size x)))
 """
 
 BATCH = """\

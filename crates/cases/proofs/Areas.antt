@@ -1,14 +1,53 @@
 -- Laws of areas of bytes: one copied over another, and one that holds known bytes and one byte alone past them.
-use lib.Seq.{ext-getD, take-all, take-length, drop-length}
+use lib.Seq.{ext-getD, length-take-le, take-all, take-length, drop-length}
 use lib.ListN.{length, set, take, drop, getD, replicate, length-append, length-replicate, getD-replicate, drop-of-length-le}
 use lib.Dec.{T, leb, eqb}
-use borrow.Author.Tests.{leb-true, leb-false, le-leb, eqb-true, eqb-false}
+use borrow.Author.Tests.{leb-true, leb-false, le-leb, eqb-true, eqb-false, eq-eqb}
 use native.Mathlib.Nat.{min-eq-left, min-eq-right}
 use native.Mathlib.Omega.{arith}
-use mathlib.Core.Bool.{Bool, true, false}
+use mathlib.Core.Bool.{Bool, true, false, _&&_}
 use mathlib.Core.List.{List, [], _∷_, _++_}
 use mathlib.Core.Path.{_≡_, refl, sym, ap, subst, _∙_}
+use Rattle.cases.specs.Files.{copied, sameBytes, holding}
 use Prim.Native.Nat.{ℕ, zero, suc, _+_, _-_, _≤_, _<_, min}
+
+-- `sameBytes` is true exactly where the areas are equal
+same-self : (a : List ℕ) → sameBytes a a ≡ true
+unfolding sameBytes
+same-self [] = refl
+same-self (x ∷ xs) = rw (eq-eqb x x refl) (same-self xs)
+
+same-by : (x y : ℕ) (xs ys : List ℕ) (t : Bool) → eqb x y ≡ t → (sameBytes xs ys ≡ true → xs ≡ ys) → (t && sameBytes xs ys) ≡ true
+    → x ∷ xs ≡ y ∷ ys
+same-by x y xs ys true e f h = rw (eqb-true x y e, f h)
+same-by x y xs ys false e f h = absurd (subst T (sym h) tt)
+
+same-equal : (a b : List ℕ) → sameBytes a b ≡ true → a ≡ b
+unfolding sameBytes
+same-equal [] [] h = refl
+same-equal [] (y ∷ ys) h = absurd (subst T (sym h) tt)
+same-equal (x ∷ xs) [] h = absurd (subst T (sym h) tt)
+same-equal (x ∷ xs) (y ∷ ys) h = same-by x y xs ys (eqb x y) refl (same-equal xs ys) h
+
+same-test : (r s : Bool) → (r ≡ true → s ≡ true) → (s ≡ true → r ≡ true) → r ≡ s
+same-test true s f g = sym (f refl)
+same-test false true f g = g refl
+same-test false false f g = refl
+
+-- so it is any answer that is
+pub is-same : (r : Bool) (a b : List ℕ) → (r ≡ true → a ≡ b) × (a ≡ b → r ≡ true) → r ≡ sameBytes a b
+is-same r a b h = same-test r (sameBytes a b) (λ e. rw (h .0 e) (same-self b)) (λ e. h .1 (same-equal a b e))
+
+-- the start of an area of one byte alone, as long as is asked for and there is
+pub filled-start : (x n m : ℕ) → n ≤ m → take n (replicate m x) ≡ replicate n x
+filled-start x zero m h = refl
+filled-start x (suc n) zero h = absurd (omega arith)
+filled-start x (suc n) (suc m) h = ap (λ (l : List ℕ). x ∷ l) (filled-start x n m (omega arith))
+
+pub start-length : (k size x : ℕ) {n : ℕ} {l : List ℕ} → l ≡ replicate size x → n ≡ min k size → n ≡ length (take n l)
+start-length k size x {n} {l} e h =
+    let s : length l ≡ size = ap length e ∙ length-replicate size x in
+    sym (length-take-le n l (omega (arith, h)))
 
 -- one more byte is copied
 pub copied-more : (i : ℕ) (s l : List ℕ) → i < length s → i < length l
@@ -35,7 +74,8 @@ copied-by i s l false e h k m =
     rw (j, take-length s, take-all (length l) s n)
 
 pub copied-done : (i m : ℕ) (s l : List ℕ) → m ≡ min (length l) (length s) → i ≤ length s → i ≤ length l → m ≤ i
-    → take i s ++ drop i l ≡ take (length l) s ++ drop (length s) l
+    → take i s ++ drop i l ≡ copied l s
+unfolding copied
 copied-done i m s l e h k n = copied-by i s l (leb (length l) (length s)) refl h k (rw (← e) n)
 
 -- which element stands for one that is not there is no matter to one that is
@@ -73,20 +113,26 @@ module _ (a k : List ℕ) (p : ℕ) where
       let n : length a ≡ length k + (length a - length k) = ap length e ∙ length-padded k (length a - length k) p in
       omega arith
 
+  abbrev Held : Bool → Type 0
+  Held r = (r ≡ true → Padded) × (Padded → r ≡ true)
+
+  is-held : (r : Bool) → Held r → r ≡ holding a k p
+  unfolding holding
+  is-held r h = is-same r a (k ++ replicate (length a - length k) p) h
+
   -- an answer of no, where one byte is another
-  pub held-no : (i : ℕ) → i < length a → (getD a i 0 ≡ getD k i p → ⊥) → (false ≡ true → Padded) × (Padded → false ≡ true)
-  held-no i h d = (
-    λ e. absurd (subst T (sym e) tt),
-    λ e. absurd (d (ap (λ (t : List ℕ). getD t i 0) e ∙ padded-get k (length a - length k) i p (omega arith))),
-  )
+  pub held-no : (i : ℕ) → i < length a → (getD a i 0 ≡ getD k i p → ⊥) → false ≡ holding a k p
+  held-no i h d =
+      is-held false
+      (λ e. absurd (subst T (sym e) tt), λ e. absurd (d (ap (λ (t : List ℕ). getD t i 0) e ∙ padded-get k (length a - length k) i p (omega arith))))
 
   -- the answer where none is
-  pub held-all : (n : ℕ) → length a ≤ n → Agree a k p n
-      → (leb (length k) (length a) ≡ true → Padded) × (Padded → leb (length k) (length a) ≡ true)
-  held-all n h f = (
-    λ e. let m : length k ≤ length a = leb-true (length k) (length a) e in
-        let l : length (k ++ replicate (length a - length k) p) ≡ length k + (length a - length k) = length-padded k (length a - length k) p in
-        ext-getD 0 a (k ++ replicate (length a - length k) p) (omega arith)
-        (λ i b. f i (omega arith) ∙ sym (padded-get k (length a - length k) i p (omega arith))),
-    λ e. le-leb (length k) (length a) (padded-length e),
-  )
+  pub held-all : (n : ℕ) → length a ≤ n → Agree a k p n → leb (length k) (length a) ≡ holding a k p
+  held-all n h f =
+      is-held (leb (length k) (length a)) (
+        λ e. let m : length k ≤ length a = leb-true (length k) (length a) e in
+            let l : length (k ++ replicate (length a - length k) p) ≡ length k + (length a - length k) = length-padded k (length a - length k) p in
+            ext-getD 0 a (k ++ replicate (length a - length k) p) (omega arith)
+            (λ i b. f i (omega arith) ∙ sym (padded-get k (length a - length k) i p (omega arith))),
+        λ e. le-leb (length k) (length a) (padded-length e),
+      )

@@ -1,12 +1,8 @@
 // Files of cases: numbers of four bytes, big-endian, and byte areas padded to a multiple of four.
 ghost use mathlib.Core.Path.{_≡_};
-ghost use mathlib.Core.Bool.{true};
-ghost use mathlib.Core.List.{_++_};
-ghost use Prim.Native.Nat.{_+_, _-_, _*_, _/_, _≤_, _<_, _^_, min};
-ghost use lib.Dec.{leb};
-ghost use lib.ListN.{length, take, drop, getD, replicate};
-ghost use Rattle.numbers.specs.Choice.{pick};
-ghost use Rattle.numbers.specs.Number.{numberAt};
+ghost use Prim.Native.Nat.{_+_, _≤_, _<_, _^_, min};
+ghost use lib.ListN.{length, getD};
+ghost use Rattle.cases.specs.Files.{numberIn, partOf, paddedTo, copied, holding, oneEntry, oldParts};
 
 // What is found of a case: where the next one starts, how many of its entries agree before one that does not, and whether all agrees,
 // with what is no entry, as the data after the last.
@@ -14,6 +10,17 @@ pub struct Found {
     pub next: usize,
     pub entries: u32,
     pub agrees: bool,
+}
+
+// The verdict on a case of one entry.
+pub fn one(next: usize, agrees: bool) -> Found
+    ensures { λ r. ⌜ r ≡ oneEntry next agrees ⌝ }
+{
+    Found {
+        next,
+        entries: agrees as u32,
+        agrees,
+    }
 }
 
 // Where the parts of a case start, and how many bytes its image (extent) and its data (size) have.
@@ -27,9 +34,9 @@ pub struct Parts {
     pub next: usize,
 }
 
-// Reads a file into a buffer, and answers how many bytes it has.
+// Reads a file into a buffer, and answers how many bytes it has: which bytes they are, no contract can say.
 pub fn load(path: &[u8], buffer: &mut [u8]) -> usize
-    ensures { λ r. ⌜ r ≤ length (now (buffer .exit)) ⌝ }
+    ensures { λ r. ⌜ (length (now (buffer .exit)) ≡ length (now (buffer .entry))) × (r ≤ length (now (buffer .exit))) ⌝ }
 {
     let fd = os::open_read(path);
     if fd < 0 {
@@ -43,7 +50,7 @@ pub fn load(path: &[u8], buffer: &mut [u8]) -> usize
 
 // The number at a position, or 0 where the file is shorter.
 pub fn number(bytes: &[u8], at: usize) -> u32
-    ensures { λ r. ⌜ r ≡ pick (leb (at + 4) (length (now (bytes .entry)))) (numberAt (now (bytes .entry)) at) 0 ⌝ }
+    ensures { λ r. ⌜ r ≡ numberIn (now (bytes .entry)) at ⌝ }
 {
     if at <= bytes.len() {
         if 4 <= bytes.len() - at {
@@ -55,7 +62,7 @@ pub fn number(bytes: &[u8], at: usize) -> u32
 
 // The bytes that an area takes in the file.
 pub fn padded(n: u32) -> usize
-    ensures { λ r. ⌜ r ≡ (n + 3) / 4 * 4 ⌝ }
+    ensures { λ r. ⌜ r ≡ paddedTo n ⌝ }
 {
     (n as usize + 3) / 4 * 4
 }
@@ -68,7 +75,7 @@ pub fn least(a: usize, b: usize) -> usize
 
 // As many bytes from a position on as are asked for, or fewer where the file is shorter.
 pub fn part(bytes: &[u8], start: usize, n: usize) -> &[u8]
-    ensures { λ r. ⌜ now r ≡ take n (drop start (now (bytes .entry))) ⌝ }
+    ensures { λ r. ⌜ now r ≡ partOf (now (bytes .entry)) start n ⌝ }
 {
     let a = least(start, bytes.len());
     let e = a + least(n, bytes.len() - a);
@@ -77,7 +84,7 @@ pub fn part(bytes: &[u8], start: usize, n: usize) -> &[u8]
 
 // Copies as many bytes as both have.
 pub fn copy(to: &mut [u8], from: &[u8])
-    ensures { λ _. ⌜ now (to .exit) ≡ take (length (now (to .entry))) (now (from .entry)) ++ drop (length (now (from .entry))) (now (to .entry)) ⌝ }
+    ensures { λ _. ⌜ now (to .exit) ≡ copied (now (to .entry)) (now (from .entry)) ⌝ }
 {
     let mut i: usize = 0;
     while i < least(to.len(), from.len()) {
@@ -95,7 +102,7 @@ fn byte_or(bytes: &[u8], i: usize, other: u8) -> u8
 
 // Whether an area starts with known bytes and has one byte alone past them.
 pub fn holds(area: &[u8], known: &[u8], past: u8) -> bool
-    ensures { λ r. ⌜ (r ≡ true → now (area .entry) ≡ now (known .entry) ++ replicate (length (now (area .entry)) - length (now (known .entry))) past) × (now (area .entry) ≡ now (known .entry) ++ replicate (length (now (area .entry)) - length (now (known .entry))) past → r ≡ true) ⌝ }
+    ensures { λ r. ⌜ r ≡ holding (now (area .entry)) (now (known .entry)) past ⌝ }
 {
     let mut i: usize = 0;
     while i < area.len() {
@@ -110,7 +117,7 @@ pub fn holds(area: &[u8], known: &[u8], past: u8) -> bool
 // The parts of the case at a position: six numbers, a state of 152 bytes, an image, data, so many bytes of answers, data.
 pub fn locate(bytes: &[u8], at: usize, answers: usize) -> Parts
     requires { ⌜ (at ≤ length (now bytes) + 4) × (answers < 2 ^ 40) ⌝ }
-    ensures { λ r. ⌜ (r .image ≡ at + 176) × (r .before ≡ r .image + (r .extent + 3) / 4 * 4) × (r .known ≡ r .before + (r .size + 3) / 4 * 4) × (r .after ≡ r .known + answers) × (r .next ≡ r .after + (r .size + 3) / 4 * 4) ⌝ }
+    ensures { λ r. ⌜ r ≡ oldParts (now (bytes .entry)) at answers ⌝ }
 {
     let extent = number(bytes, at + 4);
     let size = number(bytes, at + 16);

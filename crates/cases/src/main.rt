@@ -1,7 +1,9 @@
 // Runs the library on files of cases with known answers, and says how many agree and which do not.
 ghost use mathlib.Core.Path.{_≡_};
 ghost use Prim.Native.Nat.{_+_, _≤_};
-ghost use lib.ListN.{length};
+ghost use lib.ListN.{length, replicate};
+ghost use Rattle.cases.specs.Files.{numberIn};
+ghost use Rattle.cases.specs.Kinds.{sizeAt, ran, Finds};
 use file::Found;
 use libc::STDOUT_FILENO;
 
@@ -15,11 +17,16 @@ mod translation;
 // The most bytes of a file that are read.
 const LARGEST: usize = 1048576;
 
-// What the cases of a file are.
-enum Kind {
+// What a core's cases are.
+enum Core {
     Old,
     New,
     Trail,
+}
+
+// What the cases of a file are.
+enum Kind {
+    Runs(Core),
     Translation,
     Listing,
 }
@@ -40,43 +47,47 @@ fn say_case(name: &[u8], k: u32) {
 
 // Zeros for a case's data, which may be more than the 65,536 bytes that exist.
 fn space() -> [u8; 65552]
-    ensures { λ r. ⌜ 65552 ≡ length r ⌝ }
+    ensures { λ r. ⌜ r ≡ replicate 65552 0 ⌝ }
 {
     [0; 65552]
 }
 
-// How many bytes of data the case at a position has.
-fn data_size(kind: Kind, bytes: &[u8], at: usize) -> usize
+// How many bytes of data a core's case at a position has.
+fn data_size(core: Core, bytes: &[u8], at: usize) -> usize
     requires { ⌜ at ≤ length (now bytes) + 4 ⌝ }
+    ensures { λ r. ⌜ r ≡ numberIn (now (bytes .entry)) (at + sizeAt core) ⌝ }
 {
-    match kind {
-        Kind::New => file::number(bytes, at + 24) as usize,
-        _ => file::number(bytes, at + 16) as usize,
+    match core {
+        Core::Old => file::number(bytes, at + 16) as usize,
+        Core::New => file::number(bytes, at + 24) as usize,
+        Core::Trail => file::number(bytes, at + 16) as usize,
     }
 }
 
 // Runs a core's case at a position. A case with data that do not fit the area differs.
-fn check_run(kind: Kind, bytes: &[u8], at: usize) -> Found
+fn check_run(core: Core, bytes: &[u8], at: usize) -> Found
     requires { ⌜ at ≤ length (now bytes) + 4 ⌝ }
+    ensures { λ r. ⌜ r ≡ ran core (now (bytes .entry)) at ⌝ }
 {
     let mut zeros = space();
-    let n = file::least(data_size(kind, bytes, at), zeros.len());
+    let n = file::least(data_size(core, bytes, at), zeros.len());
     let area = &mut zeros[..n];
-    match kind {
-        Kind::Old => old::check(bytes, at, area),
-        Kind::New => records::check(bytes, at, area),
-        _ => trail::check(bytes, at, area),
+    match core {
+        Core::Old => old::check(bytes, at, area),
+        Core::New => records::check(bytes, at, area),
+        Core::Trail => trail::check(bytes, at, area),
     }
 }
 
 // Runs the case at a position.
 fn check(kind: Kind, bytes: &[u8], at: usize) -> Found
     requires { ⌜ at ≤ length (now bytes) + 4 ⌝ }
+    ensures { λ r. ⌜ Finds kind (now (bytes .entry)) at r ⌝ }
 {
     match kind {
+        Kind::Runs(core) => check_run(core, bytes, at),
         Kind::Translation => translation::check(bytes, at),
         Kind::Listing => listed::check(bytes, at),
-        _ => check_run(kind, bytes, at),
     }
 }
 
@@ -126,10 +137,10 @@ fn run(kind: Kind, name: &[u8], buffer: &mut [u8; LARGEST]) {
 
 fn main() {
     let mut buffer = [0u8; LARGEST];
-    run(Kind::Old, b"old_core.bin", &mut buffer);
-    run(Kind::New, b"new_core.bin", &mut buffer);
+    run(Kind::Runs(Core::Old), b"old_core.bin", &mut buffer);
+    run(Kind::Runs(Core::New), b"new_core.bin", &mut buffer);
     run_with(
-        Kind::Trail,
+        Kind::Runs(Core::Trail),
         b"trails.bin",
         &mut buffer,
         b" entries of ",

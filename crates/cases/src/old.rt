@@ -1,10 +1,15 @@
 // A case of the old core: a state, an image and data, and the state and the data after a run of a given count.
+ghost use mathlib.Core.Path.{_≡_};
 ghost use Prim.Native.Nat.{_+_, _≤_};
 ghost use lib.ListN.{length};
+ghost use Rattle.machine.specs.Ends.{ending};
+ghost use Rattle.cases.specs.Files.{checked};
+ghost use Rattle.cases.specs.Runs.{endedIn, oldFound};
 use crate::file::Found;
 use crate::file::copy;
 use crate::file::locate;
 use crate::file::number;
+use crate::file::one;
 use crate::file::part;
 use machine::Ended;
 
@@ -12,13 +17,16 @@ use machine::Ended;
 const TAG: u32 = 0x4F4C4443;
 
 // Whether a run ended in the known state.
-fn ended_in(known: &[u8], state: &[u8; 152], r: Ended) -> bool {
-    check::same(state, known) && r.end == number(known, 144) && r.number == number(known, 148)
+fn ended_in(known: &[u8], state: &[u8; 152], r: Ended) -> bool
+    ensures { λ s. ⌜ s ≡ endedIn (now (known .entry)) 144 (ending (r .end) (r .number)) (now (state .entry)) ⌝ }
+{
+    check::same(state, known) & (r.end == number(known, 144)) & (r.number == number(known, 148))
 }
 
 // Runs the case that starts at a position, in a data area of its size. It has one entry.
 pub fn check(bytes: &[u8], at: usize, area: &mut [u8]) -> Found
     requires { ⌜ at ≤ length (now bytes) + 4 ⌝ }
+    ensures { λ r. ⌜ checked r (now (area .exit)) ≡ oldFound (now (bytes .entry)) at (now (area .entry)) ⌝ }
 {
     let p = locate(bytes, at, 152);
     let mut state = [0u8; 152];
@@ -32,12 +40,8 @@ pub fn check(bytes: &[u8], at: usize, area: &mut [u8]) -> Found
         area,
         (number(bytes, at + 20) % 65536) as u16,
     );
-    let agrees = number(bytes, at) == TAG
-        && ended_in(part(bytes, p.known, 152), &state, r)
-        && check::same(area, part(bytes, p.after, p.size));
-    Found {
-        next: p.next,
-        entries: agrees as u32,
-        agrees,
-    }
+    let agrees = (number(bytes, at) == TAG)
+        & ended_in(part(bytes, p.known, 152), &state, r)
+        & check::same(area, part(bytes, p.after, p.size));
+    one(p.next, agrees)
 }

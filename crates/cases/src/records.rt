@@ -1,10 +1,14 @@
 // A case of the new core: a state, a place table, records and data, and the state and the data after a run of a given count.
 ghost use mathlib.Core.Path.{_≡_};
-ghost use Prim.Native.Nat.{_+_, _*_, _/_, _≤_};
+ghost use Prim.Native.Nat.{_+_, _≤_};
 ghost use lib.ListN.{length};
+ghost use Rattle.machine.specs.Ends.{ending};
+ghost use Rattle.cases.specs.Files.{checked};
+ghost use Rattle.cases.specs.Runs.{endedIn, newParts, newFound};
 use crate::file::Found;
 use crate::file::copy;
 use crate::file::number;
+use crate::file::one;
 use crate::file::padded;
 use crate::file::part;
 use machine::Ended;
@@ -13,8 +17,10 @@ use machine::Ended;
 const TAG: u32 = 0x4E455743;
 
 // Whether a run ended in the known state.
-fn ended_in(known: &[u8], state: &[u8; 148], r: Ended) -> bool {
-    check::same(state, known) && r.end == number(known, 140) && r.number == number(known, 144)
+fn ended_in(known: &[u8], state: &[u8; 148], r: Ended) -> bool
+    ensures { λ s. ⌜ s ≡ endedIn (now (known .entry)) 140 (ending (r .end) (r .number)) (now (state .entry)) ⌝ }
+{
+    check::same(state, known) & (r.end == number(known, 140)) & (r.number == number(known, 144))
 }
 
 // Where the parts of a case start, and how many bytes its place table (rows), its records (extent) and its data (size) have.
@@ -33,7 +39,7 @@ struct Parts {
 // The parts of the case at a position: eight numbers, a state of 148 bytes, a place table, records, data, a state, data.
 fn locate(bytes: &[u8], at: usize) -> Parts
     requires { ⌜ at ≤ length (now bytes) + 4 ⌝ }
-    ensures { λ r. ⌜ (r .places ≡ at + 180) × (r .records ≡ r .places + (r .rows + 3) / 4 * 4) × (r .before ≡ r .records + (r .extent + 3) / 4 * 4) × (r .known ≡ r .before + (r .size + 3) / 4 * 4) × (r .after ≡ r .known + 148) × (r .next ≡ r .after + (r .size + 3) / 4 * 4) ⌝ }
+    ensures { λ r. ⌜ r ≡ newParts (now (bytes .entry)) at ⌝ }
 {
     let rows = number(bytes, at + 4);
     let extent = number(bytes, at + 8);
@@ -59,6 +65,7 @@ fn locate(bytes: &[u8], at: usize) -> Parts
 // Runs the case that starts at a position, in a data area of its size. It has one entry.
 pub fn check(bytes: &[u8], at: usize, area: &mut [u8]) -> Found
     requires { ⌜ at ≤ length (now bytes) + 4 ⌝ }
+    ensures { λ r. ⌜ checked r (now (area .exit)) ≡ newFound (now (bytes .entry)) at (now (area .entry)) ⌝ }
 {
     let base = number(bytes, at + 12);
     let length = number(bytes, at + 16);
@@ -80,12 +87,8 @@ pub fn check(bytes: &[u8], at: usize, area: &mut [u8]) -> Found
         area,
         count,
     );
-    let agrees = number(bytes, at) == TAG
-        && ended_in(part(bytes, p.known, 148), &state, r)
-        && check::same(area, part(bytes, p.after, p.size));
-    Found {
-        next: p.next,
-        entries: agrees as u32,
-        agrees,
-    }
+    let agrees = (number(bytes, at) == TAG)
+        & ended_in(part(bytes, p.known, 148), &state, r)
+        & check::same(area, part(bytes, p.after, p.size));
+    one(p.next, agrees)
 }

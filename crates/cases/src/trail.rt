@@ -1,6 +1,9 @@
 // A trail: a program, and what another emulator of the machine held before each word that it executed.
+ghost use mathlib.Core.Path.{_≡_};
 ghost use Prim.Native.Nat.{_+_, _≤_};
 ghost use lib.ListN.{length};
+ghost use Rattle.cases.specs.Files.{checked};
+ghost use Rattle.cases.specs.Trails.{standsAt, passed, passing, trailed, followed, trailFound};
 use crate::file::Found;
 use crate::file::copy;
 use crate::file::locate;
@@ -14,14 +17,12 @@ const TAG: u32 = 0x5452414C;
 const ENTRY: usize = 136;
 
 // Whether a state that has not ended is the one that an entry recorded.
-fn stands_at(state: &[u8], entry: &[u8]) -> bool {
-    if number(state, 144) != 0 {
-        return false;
-    }
-    if number(state, 132) != number(entry, 0) {
-        return false;
-    }
-    check::same(part(state, 0, 132), part(entry, 4, 132))
+fn stands_at(state: &[u8], entry: &[u8]) -> bool
+    ensures { λ r. ⌜ r ≡ standsAt (now (state .entry)) (now (entry .entry)) ⌝ }
+{
+    (number(state, 144) == 0)
+        & (number(state, 132) == number(entry, 0))
+        & check::same(part(state, 0, 132), part(entry, 4, 132))
 }
 
 // Compares a state with an entry and passes the entry's word. An annulled word before it has no entry.
@@ -32,7 +33,9 @@ fn pass(
     state: &mut [u8; 152],
     area: &mut [u8],
     entry: &[u8],
-) -> bool {
+) -> bool
+    ensures { λ r. ⌜ passed r (now (state .exit)) (now (area .exit)) ≡ passing (now (image .entry)) base db (now (entry .entry)) (now (state .entry)) (now (area .entry)) ⌝ }
+{
     let annulled = (number(state, 140) != 0) as u16;
     pijorrel_old::pijorrel_old_run(image, base, db, state, area, annulled);
     let same = stands_at(state, entry);
@@ -49,7 +52,9 @@ fn follow(
     area: &mut [u8],
     entries: &[u8],
     count: u32,
-) -> u32 {
+) -> u32
+    ensures { λ r. ⌜ trailed r (now (state .exit)) (now (area .exit)) ≡ followed (now (image .entry)) base db (now (entries .entry)) count 0 (now (state .entry)) (now (area .entry)) ⌝ }
+{
     let mut k: u32 = 0;
     while k < count {
         let entry = part(entries, k as usize * ENTRY, ENTRY);
@@ -64,6 +69,7 @@ fn follow(
 // Follows the program that starts at a position, in a data area of its size.
 pub fn check(bytes: &[u8], at: usize, area: &mut [u8]) -> Found
     requires { ⌜ at ≤ length (now bytes) + 4 ⌝ }
+    ensures { λ r. ⌜ checked r (now (area .exit)) ≡ trailFound (now (bytes .entry)) at (now (area .entry)) ⌝ }
 {
     let count = number(bytes, at + 20);
     let answers = count as usize * ENTRY;
@@ -80,9 +86,9 @@ pub fn check(bytes: &[u8], at: usize, area: &mut [u8]) -> Found
         part(bytes, p.known, answers),
         count,
     );
-    let agrees = number(bytes, at) == TAG
-        && entries == count
-        && check::same(area, part(bytes, p.after, p.size));
+    let agrees = (number(bytes, at) == TAG)
+        & (entries == count)
+        & check::same(area, part(bytes, p.after, p.size));
     Found {
         next: p.next,
         entries,

@@ -1,11 +1,13 @@
 // A case of the translator: an image, entries and the lengths of both buffers, and the answer with the places and the records that it counts.
 ghost use mathlib.Core.Path.{_≡_};
-ghost use Prim.Native.Nat.{_+_, _*_, _/_, _≤_};
-ghost use lib.ListN.{length};
+ghost use Prim.Native.Nat.{_+_, _≤_};
+ghost use lib.ListN.{length, replicate};
+ghost use Rattle.cases.specs.Translations.{countedIn, translationParts, namesBad, answered, checkedBoth, translationIn, translationFound, ForSome};
 use crate::file::Found;
 use crate::file::holds;
 use crate::file::least;
 use crate::file::number;
+use crate::file::one;
 use crate::file::padded;
 use crate::file::part;
 use pijorrel_translate::PijorrelAnswer;
@@ -32,22 +34,22 @@ struct Parts {
 }
 
 // How many places or records a case has: those that its answer counts, and none beside a refusal.
-fn counted(answer: u32, count: u32) -> usize
-    ensures { λ r. ⌜ r ≤ 4294967295 ⌝ }
+fn counted(answer: u32, count: u32) -> u32
+    ensures { λ r. ⌜ r ≡ countedIn answer count ⌝ }
 {
-    if answer == 0 { count as usize } else { 0 }
+    if answer == 0 { count } else { 0 }
 }
 
 // The parts of the case at a position: nine numbers, an image, entries, places, records.
 fn locate(bytes: &[u8], at: usize) -> Parts
     requires { ⌜ at ≤ length (now bytes) + 4 ⌝ }
-    ensures { λ r. ⌜ (r .image ≡ at + 36) × (r .entries ≡ r .image + (r .extent + 3) / 4 * 4) × (r .places ≡ r .entries + (r .size + 3) / 4 * 4) × (r .records ≡ r .places + r .rows) × (r .next ≡ r .records + r .bulk) ⌝ }
+    ensures { λ r. ⌜ r ≡ translationParts (now (bytes .entry)) at ⌝ }
 {
     let extent = number(bytes, at + 4);
     let size = number(bytes, at + 12);
     let answer = number(bytes, at + 24);
-    let rows = counted(answer, number(bytes, at + 28)) * 16;
-    let bulk = counted(answer, number(bytes, at + 32)) * 12;
+    let rows = counted(answer, number(bytes, at + 28)) as usize * 16;
+    let bulk = counted(answer, number(bytes, at + 32)) as usize * 12;
     let image = at + 36;
     let entries = image + padded(extent);
     let places = entries + padded(size);
@@ -66,7 +68,9 @@ fn locate(bytes: &[u8], at: usize) -> Parts
 }
 
 // Whether a position, counted from 1, is that of an entry that is misaligned or outside the image.
-fn names_bad(entries: &[u8], position: u64, base: u32, extent: usize) -> bool {
+fn names_bad(entries: &[u8], position: u64, base: u32, extent: usize) -> bool
+    ensures { λ r. ⌜ r ≡ namesBad (now (entries .entry)) position base extent ⌝ }
+{
     if position == 0 {
         return false;
     }
@@ -76,29 +80,31 @@ fn names_bad(entries: &[u8], position: u64, base: u32, extent: usize) -> bool {
     }
     let entry = number(entries, k * 4);
     let distance = numbers::subtract(entry, base) as usize;
-    entry % 4 != 0 || extent < distance + 4
+    !((entry % 4 == 0) & (distance + 4 <= extent))
 }
 
 // Whether an answer is the known one. Where several entries are bad, the case has 1 as second and any bad position is right.
-fn answers(known: &[u8], entries: &[u8], base: u32, extent: usize, r: PijorrelAnswer) -> bool {
+fn answers(known: &[u8], entries: &[u8], base: u32, extent: usize, r: PijorrelAnswer) -> bool
+    ensures { λ s. ⌜ s ≡ answered (now (known .entry)) (now (entries .entry)) base extent (r .number) (r .first) (r .second) ⌝ }
+{
     let first = number(known, 4) as u64;
     let second = number(known, 8) as u64;
-    if r.number != number(known, 0) {
-        return false;
+    let same = r.number == number(known, 0);
+    let free = (r.number == 3) & (second == 1);
+    if free {
+        return same & ((r.second == 0) & names_bad(entries, r.first, base, extent));
     }
-    if r.number == 3 && second == 1 {
-        return r.second == 0 && names_bad(entries, r.first, base, extent);
-    }
-    r.first == first && r.second == second
+    same & ((r.first == first) & (r.second == second))
 }
 
 // Runs the case that starts at a position, in buffers of its lengths. It has one entry.
 fn check_in(bytes: &[u8], at: usize, table: &mut [u8], list: &mut [u8]) -> Found
     requires { ⌜ at ≤ length (now bytes) + 4 ⌝ }
+    ensures { λ r. ⌜ ForSome (now (bytes .entry)) at (λ position. checkedBoth r (now (table .exit)) (now (list .exit)) ≡ translationIn (now (bytes .entry)) at (length (now (table .entry))) (length (now (list .entry))) position) ⌝ }
 {
     let base = number(bytes, at + 8);
-    let room = number(bytes, at + 16) as usize;
-    let space = number(bytes, at + 20) as usize;
+    let room = table.len() == number(bytes, at + 16) as usize;
+    let space = list.len() == number(bytes, at + 20) as usize;
     let known = part(bytes, at + 24, 12);
     let p = locate(bytes, at);
     let entries = part(bytes, p.entries, p.size);
@@ -106,28 +112,24 @@ fn check_in(bytes: &[u8], at: usize, table: &mut [u8], list: &mut [u8]) -> Found
     let places = part(bytes, p.places, p.rows);
     let records = part(bytes, p.records, p.bulk);
     let r = pijorrel_translate::pijorrel_translate(image, base, entries, table, list);
-    let agrees = number(bytes, at) == TAG
-        && table.len() == room
-        && list.len() == space
-        && answers(known, entries, base, p.extent, r)
-        && holds(table, places, 0)
-        && holds(list, records, 0);
-    Found {
-        next: p.next,
-        entries: agrees as u32,
-        agrees,
-    }
+    let agrees = (number(bytes, at) == TAG)
+        & room
+        & space
+        & answers(known, entries, base, p.extent, r)
+        & holds(table, places, 0)
+        & holds(list, records, 0);
+    one(p.next, agrees)
 }
 
 // Buffers that held other bytes before.
 fn used_table() -> [u8; TABLE]
-    ensures { λ r. ⌜ 131104 ≡ length r ⌝ }
+    ensures { λ r. ⌜ r ≡ replicate 131104 165 ⌝ }
 {
     [0xA5; TABLE]
 }
 
 fn used_list() -> [u8; LIST]
-    ensures { λ r. ⌜ 196608 ≡ length r ⌝ }
+    ensures { λ r. ⌜ r ≡ replicate 196608 90 ⌝ }
 {
     [0x5A; LIST]
 }
@@ -135,6 +137,7 @@ fn used_list() -> [u8; LIST]
 // Runs the case that starts at a position. A case with longer buffers than there are here differs.
 pub fn check(bytes: &[u8], at: usize) -> Found
     requires { ⌜ at ≤ length (now bytes) + 4 ⌝ }
+    ensures { λ r. ⌜ ForSome (now (bytes .entry)) at (λ position. r ≡ translationFound (now (bytes .entry)) at position) ⌝ }
 {
     let mut table = used_table();
     let mut list = used_list();

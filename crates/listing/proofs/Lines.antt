@@ -64,13 +64,13 @@ module _ (bytes : List ℕ) (count i : ℕ) (h : count ≤ i) where
   none : count - i ≡ 0
   none = omega arith
 
-  pub places-end : placeLines bytes (count - i) i ≡ []
+  pub no-place-lines : placeLines bytes (count - i) i ≡ []
   unfolding placeLines
-  places-end = rw none
+  no-place-lines = rw none
 
-  pub records-end : recordLines bytes (count - i) i ≡ []
+  pub no-record-lines : recordLines bytes (count - i) i ≡ []
   unfolding recordLines
-  records-end = rw none
+  no-record-lines = rw none
 
 -- a text within a larger bound
 pub written-within : {out out1 text : List ℕ} {at m n r : ℕ} → length text ≤ n → Written out at text m out1 r → Written out at text n out1 r

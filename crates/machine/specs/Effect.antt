@@ -35,7 +35,8 @@ withArea m a = machine (m .registers) (m .flags) a
 abbrev pub withAfter : Machine → After → Machine
 withAfter m k = machine (k .registers) (k .flags) (m .area)
 
--- call, Bicc and jmpl act on control alone, and are not done here; an illegal word has no effect
+-- call, Bicc and jmpl act on control alone, and are not done here; nor is an illegal word, of which nobody asks: the old core has ended with
+-- 3 before it (`executes`), and a kind 1 with such a word is a bad record (`fit`)
 unfoldable pub effectOf : ℕ → Instruction → Machine → Next Machine
 effectOf db Illegal m = go m
 effectOf db (Call disp) m = go m

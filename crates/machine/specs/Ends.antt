@@ -15,12 +15,12 @@ pub data Ending : Type 0 where
 unfoldable pub endingOf : End → Ending
 endingOf Going = ending 0 0
 endingOf (TrapTaken v) = ending 1 v
-endingOf (Outside v) = ending 2 v
-endingOf (IllegalWord v) = ending 3 v
+endingOf (Outside p) = ending 2 (p .0)
+endingOf (IllegalWord p) = ending 3 (p .0)
 endingOf (Misaligned v) = ending 4 v
 endingOf (Unfit v) = ending 5 v
-endingOf (NoPlace v) = ending 6 v
-endingOf (BadRecord v) = ending 7 v
+endingOf (NoPlace p) = ending 6 (p .0)
+endingOf (BadRecord r) = ending 7 (r .0)
 
 -- of two numbers in a state that no core may have written, an end but 1 to 7 counts as still going
 unfoldable pub endingFrom : ℕ → ℕ → Ending
@@ -29,12 +29,12 @@ endingFrom n v = pick (eqb n 0) (ending 0 0) (pick (leb n 7) (ending n v) (endin
 unfoldable pub isGoing : End → Bool
 isGoing Going = true
 isGoing (TrapTaken v) = false
-isGoing (Outside v) = false
-isGoing (IllegalWord v) = false
+isGoing (Outside p) = false
+isGoing (IllegalWord p) = false
 isGoing (Misaligned v) = false
 isGoing (Unfit v) = false
-isGoing (NoPlace v) = false
-isGoing (BadRecord v) = false
+isGoing (NoPlace p) = false
+isGoing (BadRecord r) = false
 
 -- what a word or a step does: the run goes on with what it made, or it ends
 pub data Next (S : Type 0) : Type 0 where

@@ -6,7 +6,7 @@ use Rattle.numbers.specs.Number.{plus}
 use Rattle.words.specs.declared.Operand.{Operand}
 use Rattle.words.specs.declared.Operand.the-variants.{Register, Constant}
 
--- "Register 0 reads and shows as 0": it is 0 in every state that a run starts from, and every write leaves it so (proofs/Zero of model)
+-- "Register 0 reads and shows as 0": it is 0 in every state that a run starts from, and every write leaves it so (`register-zero` of model)
 unfoldable pub registerOf : List ℕ → ℕ → ℕ
 registerOf rs i = getD rs (i % 32) 0
 

@@ -1,6 +1,6 @@
 // Arithmetic, logic and shifts, with the flags that their flag forms set.
 ghost use mathlib.Core.Path.{_≡_};
-ghost use Prim.Native.Nat.{_+_, _-_, _*_, _/_, _%_, _<_};
+ghost use Prim.Native.Nat.{_+_, _-_, _*_, _%_, _<_};
 ghost use lib.Dec.{ltb, eqb};
 ghost use Rattle.words.specs.Conditions.{bitOf, nzvcOf};
 ghost use Rattle.machine.specs.Registers.{registerOf, valueOf};

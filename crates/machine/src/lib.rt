@@ -1,6 +1,7 @@
 // What both cores share: registers, flags, the data area, how a run ended, and the words that do not transfer control.
 ghost use mathlib.Core.Path.{_≡_};
 ghost use Prim.Native.Nat.{_<_};
+ghost use Rattle.numbers.specs.Number.{plus};
 ghost use Rattle.words.specs.Conditions.{bitOf};
 ghost use Rattle.machine.specs.Ends.{ending, endingOf, endingFrom, isGoing};
 
@@ -12,6 +13,16 @@ pub mod registers;
 // An address of the source program. It is never read as a record number.
 pub struct SourcePc(pub u32);
 
+// The address so many bytes further.
+pub fn further(p: SourcePc, bytes: u32) -> SourcePc
+    ensures { λ r. ⌜ r .0 ≡ plus (p .0) bytes ⌝ }
+{
+    SourcePc(numbers::add(p.0, bytes))
+}
+
+// A record's number. It is never read as a source address.
+pub struct TargetPc(pub u32);
+
 // The flags N, Z, V and C as one number, 8N + 4Z + 2V + C.
 pub struct Flags {
     pub nzvc: u32,
@@ -21,18 +32,19 @@ impl Flags {
     pub const CLEAR: Flags = Flags { nzvc: 0 };
 }
 
-// How a run ended, with the number beside it: an address, or what a variant says.
+// How a run ended, with what stands beside it: a counter, or a number that need not be one.
 pub enum End {
     Going,
     // (rs1 + operand) modulo 128
     TrapTaken(u32),
-    Outside(u32),
-    IllegalWord(u32),
+    Outside(SourcePc),
+    IllegalWord(SourcePc),
+    // an address of a word or of data, or where a jmpl leads
     Misaligned(u32),
     Unfit(u32),
-    // ends of the new core alone; the second has the record number
-    NoPlace(u32),
-    BadRecord(u32),
+    // ends of the new core alone
+    NoPlace(SourcePc),
+    BadRecord(TargetPc),
 }
 
 pub fn is_going(e: End) -> bool
@@ -57,12 +69,24 @@ pub fn numbers_of(e: End) -> Ended
     match e {
         End::Going => Ended { end: 0, number: 0 },
         End::TrapTaken(v) => Ended { end: 1, number: v },
-        End::Outside(v) => Ended { end: 2, number: v },
-        End::IllegalWord(v) => Ended { end: 3, number: v },
+        End::Outside(p) => Ended {
+            end: 2,
+            number: p.0,
+        },
+        End::IllegalWord(p) => Ended {
+            end: 3,
+            number: p.0,
+        },
         End::Misaligned(v) => Ended { end: 4, number: v },
         End::Unfit(v) => Ended { end: 5, number: v },
-        End::NoPlace(v) => Ended { end: 6, number: v },
-        End::BadRecord(v) => Ended { end: 7, number: v },
+        End::NoPlace(p) => Ended {
+            end: 6,
+            number: p.0,
+        },
+        End::BadRecord(r) => Ended {
+            end: 7,
+            number: r.0,
+        },
     }
 }
 
@@ -72,12 +96,12 @@ pub fn end_from(end: u32, v: u32) -> End
 {
     match end {
         1 => End::TrapTaken(v),
-        2 => End::Outside(v),
-        3 => End::IllegalWord(v),
+        2 => End::Outside(SourcePc(v)),
+        3 => End::IllegalWord(SourcePc(v)),
         4 => End::Misaligned(v),
         5 => End::Unfit(v),
-        6 => End::NoPlace(v),
-        7 => End::BadRecord(v),
+        6 => End::NoPlace(SourcePc(v)),
+        7 => End::BadRecord(TargetPc(v)),
         _ => End::Going,
     }
 }

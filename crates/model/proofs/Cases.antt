@@ -1,7 +1,7 @@
 -- The cases hold: one theorem over the rows of the table.
 use Rattle.model.specs.Translation.{answerNumbers, badLength, badCount, badEntry, anyBad, placeRoom, filled, refusal, acceptance, fromWalk, translation}
 use Rattle.model.specs.Walk.{grow, grown, tested, handle, walk, placesOf}
-use Rattle.model.specs.Records.{numbersIn, biccGroup, groupOf, heldGroupOf, groupAt, heldGroupAt, group, past, numbered, put, tableNumbers, recordNumbers, recordsNumbers, first, rowsFrom, recordsFrom, rowsOf, recordsOf}
+use Rattle.model.specs.Records.{numbersIn, rowAt, rowsIn, recordOf, recordAt, recordsIn, biccGroup, groupOf, heldGroupOf, groupAt, heldGroupAt, group, past, numbered, put, tableNumbers, recordNumbers, recordsNumbers, first, rowsFrom, recordsFrom, rowsOf, recordsOf}
 use Rattle.model.specs.Places.{kindOf, nextOf, placeAt, samePlace, member, whichOf, biccNames, names, namesAt, followers, idleBicc, mayBeHeld, mayBeHeldAt, allowed, plains}
 use Rattle.machine.specs.DataArea.{sizeOf, loadOf}
 use Rattle.numbers.specs.Number.{plus, minus, signed, numberAt, bytesOf, numbersOf, upTo}
@@ -11,8 +11,11 @@ use Rattle.machine.specs.Arithmetic.{top, addOverflow, subOverflow, sumOf, diff
 use Rattle.machine.specs.Registers.{registerOf, putRegister, valueOf, addressOf}
 use Rattle.machine.specs.Ends.{within, settle}
 use Rattle.machine.specs.Effect.{trapOf, effectOf}
-use Rattle.model.specs.Cases.{address, addresses, over, start, shown, ended, cases, noCase, Row, given, answered, listed}
-use Rattle.model.specs.Run.{step, run}
+use Rattle.model.specs.Cases.{over, start, shown, endOf, ended, newEnded, stepAt, cases, noCase, Row, bytesBack, given, answered, listed, entriesTold, told, begins, oldTold, newTold}
+use Rattle.model.specs.Cores.{shownOf, oldMark, oldShown, naming, newMark, newShown, goesBy, newByHeld, newTrailAt}
+use Rattle.model.specs.NewCore.{following, fit, doesWord, holds, chooses, seek, lost, goes, stops, does, newNext, begunAt, newBegun}
+use Rattle.model.specs.Run.{step, run, zeroed}
+use Rattle.model.specs.StateBytes.{machineIn, newBytes, newAfter, newBegins}
 use Rattle.model.specs.OldCore.{inImage, wordIn, transferOf, target, follows, branches, jumps, executes, fetches, oldNext, oldBegun}
 use Prim.Native.Nat.{ℕ, zero, suc, _<_}
 use mathlib.Core.Path.{_≡_, refl}
@@ -52,6 +55,47 @@ each-row [] e i h = absurd (not-suc-le-zero h)
 each-row (r ∷ rs) e zero h = same-list (r .got) (r .want) (both (sameList (r .got) (r .want)) (allSame rs) e .0)
 each-row (r ∷ rs) e (suc i) h = each-row rs (both (sameList (r .got) (r .want)) (allSame rs) e .1) i (le-of-suc-le-suc h)
 
+-- ---------------------------------------------------------------- the definitions, opened layer by layer
+-- numbers, and the words that they read as
+words-open : Unit {0}
+unfolding plus minus signed numberAt bytesOf numbersOf upTo bits bitSet operandOf format0Of format2Of format3Of byFormat instructionOf rows bitAt holdsOf bitOf nzvcOf
+words-open = tt
+
+-- what words do
+machine-open : Unit {0}
+unfolding top addOverflow subOverflow sumOf differenceOf logicOf outcomeOf carryOf arithmeticOf registerOf putRegister valueOf addressOf within settle trapOf effectOf sizeOf loadOf
+machine-open = tt
+
+-- the old core
+old-open : Unit {0}
+unfolding step run inImage wordIn transferOf target follows branches jumps executes fetches oldNext oldBegun
+old-open = tt
+
+-- places, and the walk that finds them
+places-open : Unit {0}
+unfolding kindOf nextOf placeAt samePlace member whichOf biccNames names namesAt followers idleBicc mayBeHeld mayBeHeldAt allowed plains grow grown tested handle walk placesOf
+places-open = tt
+
+-- records, and what is handed back
+records-open : Unit {0}
+unfolding numbersIn rowAt rowsIn recordOf recordAt recordsIn biccGroup groupOf heldGroupOf groupAt heldGroupAt group past numbered put tableNumbers recordNumbers recordsNumbers first rowsFrom recordsFrom rowsOf recordsOf answerNumbers badLength badCount badEntry anyBad placeRoom filled refusal acceptance fromWalk translation
+records-open = tt
+
+-- the new core
+new-open : Unit {0}
+unfolding following fit doesWord holds chooses seek lost goes stops does newNext begunAt newBegun zeroed machineIn newBytes newAfter newBegins
+new-open = tt
+
+-- trails
+trails-open : Unit {0}
+unfolding shownOf oldMark oldShown naming newMark newShown goesBy newByHeld newTrailAt
+trails-open = tt
+
+-- what a row shows
+rows-open : Unit {0}
+unfolding cases newEnded stepAt bytesBack given answered listed endOf entriesTold told begins oldTold newTold over start shown ended
+rows-open = tt
+
 pub cases-hold : (i : ℕ) → i < length cases → getD cases i noCase .got ≡ getD cases i noCase .want
-unfolding cases given answered listed answerNumbers translation fromWalk acceptance refusal filled placeRoom badLength badCount badEntry anyBad numbersIn placesOf walk handle tested grown grow plains allowed mayBeHeldAt mayBeHeld idleBicc followers namesAt names biccNames whichOf member samePlace placeAt nextOf kindOf rowsOf recordsOf rowsFrom recordsFrom first put numbered past group groupAt heldGroupAt groupOf heldGroupOf biccGroup tableNumbers recordsNumbers recordNumbers numbersOf upTo address addresses over start shown ended step run oldNext oldBegun fetches executes jumps branches follows target transferOf wordIn inImage settle within effectOf arithmeticOf outcomeOf sumOf differenceOf logicOf carryOf top addOverflow subOverflow trapOf loadOf sizeOf registerOf putRegister valueOf addressOf holdsOf rows bitAt nzvcOf bitOf instructionOf byFormat format0Of format2Of format3Of operandOf bits bitSet signed plus minus numberAt bytesOf
+unfolding words-open machine-open old-open places-open records-open new-open trails-open rows-open
 cases-hold = each-row cases refl

@@ -1,5 +1,5 @@
 -- Demand 3.
-use Prim.Native.Nat.{ℕ, suc, _+_, _*_, _≤_, _<_}
+use Prim.Native.Nat.{ℕ, suc, _+_, _*_, _^_, _≤_, _<_}
 use native.Mathlib.Nat.{zero-add}
 use native.Mathlib.Omega.{arith}
 use mathlib.Core.Path.{_≡_, refl, sym, ap, _∙_}
@@ -23,8 +23,8 @@ use Rattle.model.specs.Records.{first, rowsOf, recordsOf, rowsIn, record
 use Rattle.model.specs.NewCore.{New, new, seek, begunAt, newBegun}
 use Rattle.model.specs.Translation.{Handed, translation, placeRoom}
 use Rattle.model.specs.Trails.{Core, Trail, at, trail, entry, closing, opening, Unspent, stood}
-use Rattle.model.specs.Cores.{shownOf, Start, startMachine, oldOver, newOver, oldBegin, newBegin, stepsFor, trailOf}
-use Rattle.model.specs.Demand3.{Placed, Begins, Complete, GoesBy, Strays, Claim, Holds, Demand3}
+use Rattle.model.specs.Cores.{shownOf, Start, startMachine, oldOver, newOver, oldBegin, newBegin, stepsFor, trailOf, newTrailAt}
+use Rattle.model.specs.Demand3.{Placed, Begins, Complete, Strays, Claim, Holds, Demand3}
 use Rattle.model.proofs.Shown.{shown-again, get-other}
 use Rattle.model.proofs.Hop.{Over}
 use Rattle.model.proofs.Trails.{steady-on, Cut, cuts, run-suc, traced-so, Ended, ends-so, closes-so}
@@ -33,7 +33,7 @@ use Rattle.model.proofs.Groups.{sought, not-sought}
 use Rattle.model.proofs.NewSide.{toNew, new-over}
 use Rattle.model.proofs.Simulation.{Same, Closed}
 use Rattle.model.proofs.Comparison.{number, value, told, last-six, gaps-new, new-unspent, by-entries, by-take, old-unspent, oldTrail, old-first, gaps-old, newTrail, new-first, from-one, from-two}
-use Rattle.model.proofs.Six.{Fell, six-fell, six-fell-true, six-lands}
+use Rattle.model.proofs.Six.{Fell, six-fell, kind-6-goes, six-lands}
 use Rattle.model.proofs.Walk.{places-closed, places-fit, member-made, made-member}
 use Rattle.model.proofs.Packed.{table-back, records-back}
 use Rattle.model.proofs.Accepted.{words-lt, numbers-lt, entries-aligned, Took, took}
@@ -111,7 +111,7 @@ module _ (image : List ℕ) (base db : ℕ) (es : List ℕ) (cap : ℕ) (ps : Li
     beside = oldTrail image base db (stepsFor k) k (y .address) (startMachine y)
 
     abbrev strays : ℕ → Type 0
-    strays h = Strays (GoesBy (recordsIn records)) placed (inImage base (length image)) N k (live begun) h
+    strays h = Strays placed (inImage base (length image)) N k (live begun) h
 
     alike : Same 0 beside u
     alike =
@@ -146,17 +146,18 @@ module _ (image : List ℕ) (base db : ℕ) (es : List ℕ) (cap : ℕ) (ps : Li
         omega arith
 
     strays-of : (h steps : ℕ) (last : New) → run (N .next) steps (live begun) ≡ live last → N .next last ≡ halt (ending 6 h)
-        → (N .fell last ≡ true → stood N steps (live begun) < k) → strays h
+        → ((v : ℕ) → N .byHeld last ≡ some v → stood N steps (live begun) < k) → strays h
     strays-of h steps (new m r g) go ends room =
         let f : Fell records places base (length image) db r g h = six-fell records places base (length image) db m r g h ends in
+        let b : N .byHeld (new m r g) ≡ some g = kind-6-goes records places base (length image) db m r g (f .kind-6) in
         record {
           steps = steps;
           there = new m r g;
           going = go;
-          by-held = (f .kind-6, sym (f .held-at));
+          by-held = b ∙ ap some (sym (f .held-at));
           in-image = rw (f .held-at) (f .in-image);
           no-place = λ p. missed g (f .missed) (rw (f .held-at) at p);
-          room = room (six-fell-true records places base (length image) db m r g (f .kind-6));
+          room = room g b;
         }
 
     six-there : (h : ℕ) → closing u ≡ ending 6 h → strays h
@@ -173,11 +174,11 @@ module _ (image : List ℕ) (base db : ℕ) (es : List ℕ) (cap : ℕ) (ps : Li
         sym (ap closing (steady-on N (stepsFor k) (stepsFor k + suc (s .steps)) k 0 (live begun) (omega arith) u-unspent))
         ∙ go (s .there) (s .going) (s .by-held)
       where
-        go : (v : New) → run (N .next) (s .steps) (live begun) ≡ live v → GoesBy (recordsIn records) v h
+        go : (v : New) → run (N .next) (s .steps) (live begun) ≡ live v → N .byHeld v ≡ some h
             → closing (trail N (stepsFor k + suc (s .steps)) k 0 (live begun)) ≡ ending 6 h
         go (new m r g) e b =
-            closes-so N (new-over records places base (length image) db) (shownOf m) (ending 6 h) (new m r g)
-            (rw (b .1) (six-lands records places base (length image) db m r h (b .0) (not-found h (s .no-place)) (s .in-image))) (s .steps)
+            closes-so N (new-over records places base (length image) db) h (shownOf m) (ending 6 h) (new m r g)
+            (six-lands records places base (length image) db m r g h b (not-found h (s .no-place)) (s .in-image)) (s .steps)
             (stepsFor k + suc (s .steps)) k 0 begun (omega arith) e (s .room)
 
     claim : Claim strays t u
@@ -197,7 +198,7 @@ module _ (image : List ℕ) (base db : ℕ) (es : List ℕ) (cap : ℕ) (ps : Li
           old-pace = gaps-old image base db (stepsFor k) k (x .address) (startMachine x) (omega arith) lk;
         }
 
-    from-live : Holds (GoesBy (recordsIn records)) placed (inImage base (length image)) k x y (oldOver image base db)
+    from-live : Holds placed (inImage base (length image)) k x y (oldOver image base db)
         (live (old (startMachine x) (x .address) (plus (x .address) 4) false)) N (live begun)
     from-live =
         record {
@@ -212,7 +213,7 @@ module _ (image : List ℕ) (base db : ℕ) (es : List ℕ) (cap : ℕ) (ps : Li
     unfolding newBegun begunAt rowsOf
     new-begun = rw (er, sought image base ps 0 (y .address) (in-list (y .address) hy), zero-add)
 
-    pub from-begin : Holds (GoesBy (recordsIn records)) placed (inImage base (length image)) k x y (oldOver image base db) (oldBegin x) N
+    pub from-begin : Holds placed (inImage base (length image)) k x y (oldOver image base db) (oldBegin x) N
         (newBegin places base (length image) y)
     unfolding oldBegun
     from-begin = rw new-begun from-live
@@ -257,12 +258,26 @@ laid image base entryList placesLength recordsLength position placeCount recordC
       records-bytes = rw r (below-bytes (recordsNumbers (recordsOf image base (tk .ps))));
     }
 
--- an address with a plain place is found in the table
-pub finds : (image : List ℕ) (base : ℕ) (entryList : List ℕ) (cap : ℕ) (places records : List ℕ) (L : Laid image base entryList cap places records) (a : ℕ)
-    → Placed image base entryList a → seek (rowsIn places) a ≡ some (0 + first image base (L .ps) (plain a))
-unfolding rowsOf
-finds image base entryList cap places records L a h =
-    rw (L .table-read) (sought image base (L .ps) 0 a (made-member image base cap (numbersIn entryList) (L .ps) (L .made) (L .closed) (plain a) h))
+-- an address with a plain place is in the list that the walk found, and so is a number of 32 bits and found in the table
+module _ (image : List ℕ) (base : ℕ) (entryList : List ℕ) (cap : ℕ) (places records : List ℕ) (L : Laid image base entryList cap places records) (a : ℕ)
+    (h : Placed image base entryList a) where
+  listed : member (L .ps) (plain a) ≡ true
+  listed = made-member image base cap (numbersIn entryList) (L .ps) (L .made) (L .closed) (plain a) h
+
+  pub placed-lt : a < 2 ^ 32
+  placed-lt = L .closed .aligned-at (plain a) listed .2
+
+  pub finds : seek (rowsIn places) a ≡ some (0 + first image base (L .ps) (plain a))
+  unfolding rowsOf
+  finds = rw (L .table-read) (sought image base (L .ps) 0 a listed)
+
+-- so the trail that demand 3 speaks of is the one that the new core has from its begin
+pub begun-trail : (image : List ℕ) (base : ℕ) (entryList : List ℕ) (cap : ℕ) (places records : List ℕ) → Laid image base entryList cap places records
+    → (y : Start) → Placed image base entryList (y .address) → (db k : ℕ)
+    → newTrailAt (newOver records places base (length image) db) (stepsFor k) k (y .address) (newBegin places base (length image) y)
+    ≡ trailOf (newOver records places base (length image) db) k (newBegin places base (length image) y)
+unfolding newTrailAt newBegun begunAt
+begun-trail image base entryList cap places records L y h db k = rw (finds image base entryList cap places records L (y .address) h)
 
 pub demand3 : Demand3
 unfolding Demand3

@@ -12,29 +12,29 @@ use Rattle.numbers.specs.Choice.{pick}
 use Rattle.numbers.specs.Number.{Below, plus, numberAt}
 use Rattle.numbers.proofs.Bounds.{plus-lt}
 use Rattle.words.specs.Conditions.{bitOf}
-use Rattle.machine.specs.Ends.{Ending, ending, go, State, state, live}
+use Rattle.machine.specs.Ends.{Ending, ending, go, State, live}
 use Rattle.machine.specs.Effect.{Machine}
 use Rattle.model.specs.Run.{dataOf}
 use Rattle.model.specs.OldCore.{Old, old, inImage, oldNext, oldBegun}
 use Rattle.model.specs.Places.{plain}
-use Rattle.model.specs.Records.{first, rowsIn, recordsIn}
+use Rattle.model.specs.Records.{first, rowsIn}
 use Rattle.model.specs.NewCore.{New, new, newNext, seek, begunAt, newBegun}
 use Rattle.model.specs.declared.Answer.{Answer}
 use Rattle.model.specs.declared.Answer.the-variants.{Accepted, ImageLength, Base, Entry, Forbidden, NoRoom, RecordsShort}
 use Rattle.model.specs.Translation.{answerNumbers, Handed, translation, placeRoom, Back}
 use Rattle.model.specs.Trails.{Core, Unspent}
-use Rattle.model.specs.Cores.{oldMark, oldShown, oldOver, newMark, newShown, newFell, newOver, oldBegin, newBegin, stepsFor, trailOf}
-use Rattle.model.specs.Demand3.{Placed, Complete, GoesBy, Strays, Holds, Demand3}
+use Rattle.model.specs.Cores.{oldMark, oldShown, oldOver, newMark, newShown, newByHeld, newOver, oldBegin, newBegin, stepsFor, trailOf}
+use Rattle.model.specs.Demand3.{Placed, Complete, Strays, Holds, Demand3}
 use Rattle.model.specs.StateBytes.{machineIn, oldIn, oldBytes, newIn, newBytes, After, oldAfter, newAfter, oldBegins, oldRuns, newBegins, newRuns}
-use Rattle.model.specs.Interface.{Bytes, bytes, answered, called, bytesShown, oldBytesMark, oldCalls, newBytesMark, newBytesFell, newCalls, BytesGoBy, oldStarted, newStarted, startOf, Interface}
+use Rattle.model.specs.Interface.{Bytes, bytes, answered, called, bytesShown, oldBytesMark, oldCalls, newBytesMark, newBytesByHeld, newCalls, oldStarted, newStarted, startOf, Interface}
 use Rattle.model.proofs.Hop.{Over}
 use Rattle.model.proofs.Bounds.{SoundOld, SoundNew, found-lt}
 use Rattle.model.proofs.RoundTrip.{data-back, machine-sound}
 use Rattle.model.proofs.Shown.{shown-sound, start-shown}
-use Rattle.model.proofs.Related.{Beside, Related, from-same, strays-on, flipped, flip-beside, holds-on}
+use Rattle.model.proofs.Related.{Beside, Related, trail-same, strays-on, flipped, flip-beside, holds-on}
 use Rattle.model.proofs.Coded.{runs-add, Holding, called-step}
 use Rattle.model.proofs.Calls.{oldArea, old-coded, old-sound, old-pc, old-annul, old-shows, newArea, new-coded, new-sound, new-record, new-held, new-shows}
-use Rattle.model.proofs.Demand3.{complete, Laid, laid, finds, demand3}
+use Rattle.model.proofs.Demand3.{complete, Laid, laid, placed-lt, finds, demand3}
 
 -- ---------------------------------------------------------------- a run of m and then one of n is a run of m + n
 pub old-runs-add : (image : List ℕ) (base db m n : ℕ) (bs l : List ℕ) → Below 256 bs → Below 256 l
@@ -80,7 +80,7 @@ module _ (image : List ℕ) (base db : ℕ) (l : List ℕ) where
       record {
         marks = old-marks;
         shows = old-shown-same;
-        falls = λ b s h. refl;
+        goes = λ b s h. refl;
         steps = λ b s h. called-step (oldNext image base db) oldAfter oldIn oldArea SoundOld (old-coded image base db) l b s h;
       }
 
@@ -108,9 +108,11 @@ module _ (records places : List ℕ) (base size db : ℕ) (br : Below 256 record
   unfolding newBytesMark newMark newAfter
   new-marks b (new m r g) h = rw (h .0, new-record (length (dataOf l)) m r g 0 0 (h .1, refl))
 
-  new-falls : (b : Bytes) (s : New) → NewHolds b s → newBytesFell records b ≡ newFell records s
-  unfolding newBytesFell newFell newAfter
-  new-falls b (new m r g) h = rw (h .0, new-record (length (dataOf l)) m r g 0 0 (h .1, refl))
+  new-goes : (b : Bytes) (s : New) → NewHolds b s → newBytesByHeld records b ≡ newByHeld records s
+  unfolding newBytesByHeld newByHeld newAfter
+  new-goes b (new m r g) h =
+      let n = length (dataOf l) in
+      rw (h .0, new-record n m r g 0 0 (h .1, refl), new-held n m r g 0 0 (h .1, refl))
 
   new-shown-same : (b : Bytes) (s : New) → NewHolds b s → bytesShown b ≡ newShown s
   unfolding bytesShown newShown newAfter
@@ -124,26 +126,9 @@ module _ (records places : List ℕ) (base size db : ℕ) (br : Below 256 record
       record {
         marks = new-marks;
         shows = new-shown-same;
-        falls = new-falls;
+        goes = new-goes;
         steps = λ b s h. called-step (newNext records places base size db) newAfter newIn newArea SoundNew (new-coded records places base size db br bp) l b s h;
       }
-
-  -- the same bytes go by the same held address
-  pub bytes-go : (b : Bytes) (s : New) (h : ℕ) → NewHolds b s → BytesGoBy (recordsIn records) b h → GoesBy (recordsIn records) s h
-  unfolding newAfter
-  bytes-go b (new m r g) h q y =
-      let n = length (dataOf l) in
-      let e : numberAt (b .state) 132 ≡ r = rw (q .0) (new-record n m r g 0 0 (q .1, refl)) in
-      let f : numberAt (b .state) 136 ≡ g = rw (q .0) (new-held n m r g 0 0 (q .1, refl)) in
-      (rw (← e) (y .0), sym f ∙ y .1)
-
-  pub go-bytes : (b : Bytes) (s : New) (h : ℕ) → NewHolds b s → GoesBy (recordsIn records) s h → BytesGoBy (recordsIn records) b h
-  unfolding newAfter
-  go-bytes b (new m r g) h q y =
-      let n = length (dataOf l) in
-      let e : numberAt (b .state) 132 ≡ r = rw (q .0) (new-record n m r g 0 0 (q .1, refl)) in
-      let f : numberAt (b .state) 136 ≡ g = rw (q .0) (new-held n m r g 0 0 (q .1, refl)) in
-      (rw e (y .0), f ∙ y .1)
 
   pub new-beside : (q f : ℕ) (bs : List ℕ) → Below 256 bs → Below 256 l → f < 2 ^ 32 → seek (rowsIn places) q ≡ some f
       → Beside NewHolds (newStarted places base size q (bytes bs l)) (newBegin places base size (startOf q (bytes bs l)))
@@ -198,7 +183,7 @@ module _ (image : List ℕ) (base : ℕ) (entryList : List ℕ) (cap : ℕ) (pla
       (p q : ℕ) (lp : p < 2 ^ 32) (hq : Placed image base entryList q) (k : ℕ) where
     old-trails : trailOf OC k (oldStarted p b) ≡ trailOf (oldOver image base db) k (oldBegin (startOf p b))
     old-trails =
-        from-same OC (oldOver image base db) (OldHolds image base db (b .area)) (old-related image base db (b .area)) (stepsFor k) k (oldStarted p b)
+        trail-same OC (oldOver image base db) (OldHolds image base db (b .area)) (old-related image base db (b .area)) (stepsFor k) k 0 (oldStarted p b)
         (oldBegin (startOf p b)) (old-beside image base db (b .area) p (b .state) bb bd lp)
 
     abbrev NH : Bytes → New → Type 0
@@ -228,23 +213,21 @@ module _ (image : List ℕ) (base : ℕ) (entryList : List ℕ) (cap : ℕ) (pla
         (rw found at (found-lt places q (L .places-bytes))) found
 
     new-trails : trailOf NC k started ≡ trailOf N k begun
-    new-trails = from-same NC N NH related (stepsFor k) k started begun beside
+    new-trails = trail-same NC N NH related (stepsFor k) k 0 started begun beside
 
-    strays-same : (h : ℕ) → Strays (GoesBy (recordsIn records)) (Placed image base entryList) (inImage base size) N k begun h
-        ↔ Strays (BytesGoBy (recordsIn records)) (Placed image base entryList) (inImage base size) NC k started h
+    strays-same : (h : ℕ) → Strays (Placed image base entryList) (inImage base size) N k begun h
+        ↔ Strays (Placed image base entryList) (inImage base size) NC k started h
     strays-same h = (
-      strays-on N NC (λ s x. NH x s) (flipped related) (GoesBy (recordsIn records)) (BytesGoBy (recordsIn records)) (Placed image base entryList)
-          (inImage base size) k begun started h (flip-beside NH started begun beside)
-          (λ s x r. go-bytes records places base size db (L .records-bytes) (L .places-bytes) (c .area) x s h r),
-      strays-on NC N NH related (BytesGoBy (recordsIn records)) (GoesBy (recordsIn records)) (Placed image base entryList) (inImage base size) k started
-          begun h beside (λ x s r. bytes-go records places base size db (L .records-bytes) (L .places-bytes) (c .area) x s h r),
+      strays-on N NC (λ s x. NH x s) (flipped related) (Placed image base entryList) (inImage base size) k begun started h
+          (flip-beside NH started begun beside),
+      strays-on NC N NH related (Placed image base entryList) (inImage base size) k started begun h beside,
     )
 
-    pub on-bytes : Holds (GoesBy (recordsIn records)) (Placed image base entryList) (inImage base size) k (startOf p b) (startOf q c) (oldOver image base db)
+    pub on-bytes : Holds (Placed image base entryList) (inImage base size) k (startOf p b) (startOf q c) (oldOver image base db)
         (oldBegin (startOf p b)) N begun
-        → Holds (BytesGoBy (recordsIn records)) (Placed image base entryList) (inImage base size) k (startOf p b) (startOf q c) OC (oldStarted p b) NC started
+        → Holds (Placed image base entryList) (inImage base size) k (startOf p b) (startOf q c) OC (oldStarted p b) NC started
     on-bytes H =
-        holds-on (GoesBy (recordsIn records)) (BytesGoBy (recordsIn records)) (Placed image base entryList) (inImage base size) k (startOf p b) (startOf q c)
+        holds-on (Placed image base entryList) (inImage base size) k (startOf p b) (startOf q c)
         (oldOver image base db) (oldBegin (startOf p b)) N begun OC (oldStarted p b) NC started old-trails new-trails
         (complete OC over-old k (bytes (oldBegins p (b .state)) (b .area)) (subst Unspent (sym old-trails) (H .old-complete .unspent)))
         (complete-at NC over-new k started (bytes (newBytes (live (new (machineIn (c .state) []) f 0))) (c .area))
@@ -265,13 +248,14 @@ accepted-back (RecordsShort n) P R e = let z : _≡_ {A = ℕ} 6 0 = cc in absur
 
 pub interface : Interface
 unfolding Interface Demand3
-interface image base entryList placesLength recordsLength placeCount recordCount table list ib eb call b c bb bd cb cd p q lp lq hp hq db k lk places records et er =
+interface image base entryList placesLength recordsLength placeCount recordCount table list ib eb call b c bb bd cb cd p q hp hq db k lk places records et er =
     let handed : Handed = translation image base entryList placesLength recordsLength (call .position) in
     let numbers : answerNumbers (handed .answer) ≡ 0 ∷ placeCount ∷ recordCount ∷ [] = sym (ap (λ (x : Back). x .numbers) (call .all)) in
     let accepted : handed .answer ≡ Accepted placeCount recordCount = accepted-back (handed .answer) placeCount recordCount numbers in
     let et′ : places ≡ take (16 * placeCount) (handed .places) = et ∙ ap (λ (x : Back). take (16 * placeCount) (x .places)) (call .all) in
     let er′ : records ≡ take (12 * recordCount) (handed .records) = er ∙ ap (λ (x : Back). take (12 * recordCount) (x .records)) (call .all) in
     let L = laid image base entryList placesLength recordsLength (call .position) placeCount recordCount ib eb handed refl accepted places records et′ er′ in
-    on-bytes image base entryList (placeRoom placesLength) places records L db b c bb bd cb cd p q lp hq k
+    on-bytes image base entryList (placeRoom placesLength) places records L db b c bb bd cb cd p q
+    (placed-lt image base entryList (placeRoom placesLength) places records L p hp) hq k
     (demand3 image base entryList placesLength recordsLength (call .position) placeCount recordCount ib eb handed refl accepted (startOf p b) (startOf q c) hp hq
     db k lk places records et′ er′)

@@ -25,7 +25,7 @@ use Rattle.model.specs.Places.{plain, placeAt, member, Which, never, alw
 use Rattle.model.specs.Records.{Rec, doWord, link, hold, goIf, goTo, goHeld, stop, unknown, Group, one, two, biccGroup, groupOf, heldGroupOf, groupAt, heldGroupAt, group, numbered, first, rowsOf, recordsOf, rowsIn, recordsIn}
 use Rattle.model.specs.NewCore.{New, new, following, fit, doesWord, holds, chooses, seek, lost, goes, stops, does, newNext}
 use Rattle.model.specs.Trails.{Core}
-use Rattle.model.specs.Cores.{shownOf, naming, newMark, newShown, goesByHeld, newFell, newOver}
+use Rattle.model.specs.Cores.{shownOf, naming, newMark, newShown, goesBy, newByHeld, newOver}
 use Rattle.words.specs.declared.Operand.{Operand}
 use Rattle.model.proofs.Transfers.{trapEnd, trap-halts, idle-does, small-condition}
 use Rattle.model.proofs.Hop.{Left, onward, ends, leaves, left, Hop, once, twice, Over}
@@ -34,7 +34,7 @@ use Rattle.model.proofs.Groups.{Stands, stands, Second, unnamed, named}
 
 -- opens what the records of a group do
 new-open : Unit {0}
-unfolding does doesWord fit holds chooses stops following within numbered goesByHeld
+unfolding does doesWord fit holds chooses stops following within numbered goesBy
 new-open = tt
 
 module _ (image : List ℕ) (base db : ℕ) (ps : List Place) (records places : List ℕ) where
@@ -54,7 +54,7 @@ module _ (image : List ℕ) (base db : ℕ) (ps : List Place) (records places : 
   abbrev pub newOut : Out → Left New
   newOut (on pl h m) = onward (toNew pl h m)
   newOut (over e) = ends e
-  newOut (by a m) = leaves true (shownOf m) (goes (seek (rowsIn places) a) (inImage base (length image) a) m a)
+  newOut (by a m) = leaves (some a) (shownOf m) (goes (seek (rowsIn places) a) (inImage base (length image) a) m a)
 
   -- a group at record f, its second record named by no row
   abbrev Here : ℕ → Group Place → Type 0
@@ -65,8 +65,8 @@ module _ (image : List ℕ) (base db : ℕ) (ps : List Place) (records places : 
 
   -- the record at hand tells what is left
   at-hand : (y : Rec ℕ) (m : Machine) (f h : ℕ) → getElem? (recordsIn records) f ≡ some y
-      → left newCore (new m f h) ≡ leaves (goesByHeld (some y)) (shownOf m) (D y m f h)
-  unfolding newFell newShown newNext
+      → left newCore (new m f h) ≡ leaves (goesBy (some y) h) (shownOf m) (D y m f h)
+  unfolding newByHeld newShown newNext
   at-hand y m f h e = rw e
 
   module _ (f p n h : ℕ) (m : Machine) (low : suc f < 2 ^ 32) where
@@ -75,7 +75,7 @@ module _ (image : List ℕ) (base db : ℕ) (ps : List Place) (records places : 
     wraps = omega arith
 
     -- a record that ends the run, or goes where another place's group stands
-    first-ends : (r : Rec Place) (e : Ending) → getElem? (recordsIn records) f ≡ some (numbered φ r) → goesByHeld (some (numbered φ r)) ≡ false
+    first-ends : (r : Rec Place) (e : Ending) → getElem? (recordsIn records) f ≡ some (numbered φ r) → goesBy (some (numbered φ r)) h ≡ none
         → D (numbered φ r) m f h ≡ halt e → Hop newCore (new m f h) (ends e)
     first-ends r e s g d = once (at-hand (numbered φ r) m f h s ∙ rw (g, d))
 
@@ -85,7 +85,7 @@ module _ (image : List ℕ) (base db : ℕ) (ps : List Place) (records places : 
 
     -- the first record went on to the second
     then-second : (r s : Rec Place) (m′ : Machine) (h′ : ℕ) → Here f (two r s) → D (numbered φ r) m f h ≡ go (new m′ (plus f 1) h′)
-        → Hop newCore (new m f h) (leaves (goesByHeld (some (numbered φ s))) (shownOf m′) (D (numbered φ s) m′ (suc f) h′))
+        → Hop newCore (new m f h) (leaves (goesBy (some (numbered φ s)) h′) (shownOf m′) (D (numbered φ s) m′ (suc f) h′))
     unfolding newMark
     then-second r s m′ h′ k d =
         twice (new m′ (suc f) h′) (at-hand (numbered φ r) m f h (k .0) ∙ rw (d, wraps)) (k .2) (at-hand (numbered φ s) m′ (suc f) h′ (k .1))

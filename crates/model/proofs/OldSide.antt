@@ -54,8 +54,8 @@ module _ (image : List ℕ) (base db : ℕ) where
 
   module _ (s : Old) (p n h : ℕ) (m : Machine) where
     -- what is known of the step from s, as what it left
-    step-left : (x : Next Old) → N s ≡ x → left (oldOver image base db) s ≡ leaves false (oldShown s) x
-    step-left x e = ap (leaves false (oldShown s)) e
+    step-left : (x : Next Old) → N s ≡ x → left (oldOver image base db) s ≡ leaves none (oldShown s) x
+    step-left x e = ap (leaves none (oldShown s)) e
 
     -- the word at n is annulled: the next entry stands one step later
     then-passed : (t : ℕ) → N s ≡ go (old m n t true) → O s (onward (old m t (plus t 4) false))

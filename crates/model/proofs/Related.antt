@@ -1,14 +1,14 @@
 -- Two cores that do the same step by step, told apart only by how they hold their states, make the same trails.
 use Prim.Native.Nat.{ℕ, zero, suc}
 use native.Mathlib.Omega.{arith}
-use mathlib.Core.Path.{_≡_, refl, sym, ap, subst, subst₂}
+use mathlib.Core.Path.{_≡_, refl, sym, ap, _∙_, subst, subst₂}
 use mathlib.Core.Logic.{_↔_}
 use mathlib.Core.Bool.{Bool}
 use mathlib.Core.Option.{Option, none, some}
 use Rattle.machine.specs.Ends.{ending, Next, go, halt, State, state, live, settle}
 use Rattle.machine.specs.Effect.{Machine}
 use Rattle.model.specs.Run.{step, run}
-use Rattle.model.specs.Trails.{Core, Trail, at, turn, trail, trailFrom, oneIf, counted, stood}
+use Rattle.model.specs.Trails.{Core, Trail, at, turn, trail, oneIf, counted, stood}
 use Rattle.model.specs.Cores.{Start, trailOf}
 use Rattle.model.specs.Demand3.{Begins, Complete, Strays, Claim, Holds}
 
@@ -26,7 +26,7 @@ Beside {T = T} R (state s e) y = (t : T) × ((y ≡ state t e) × R s t)
 pub record Related {S T : Type 0} (c : Core S) (d : Core T) (R : S → T → Type 0) : Type 0 where
   pub marks : (s : S) (t : T) → R s t → c .mark s ≡ d .mark t
   pub shows : (s : S) (t : T) → R s t → c .shown s ≡ d .shown t
-  pub falls : (s : S) (t : T) → R s t → c .fell s ≡ d .fell t
+  pub goes : (s : S) (t : T) → R s t → c .byHeld s ≡ d .byHeld t
   pub steps : (s : S) (t : T) → R s t → Alike R (c .next s) (d .next t)
 
 module _ {S T : Type 0} (c : Core S) (d : Core T) (R : S → T → Type 0) (Q : Related c d R) where
@@ -66,27 +66,23 @@ module _ {S T : Type 0} (c : Core S) (d : Core T) (R : S → T → Type 0) (Q : 
 
   pub trail-same : (f k gap : ℕ) (x : State S) (y : State T) → Beside R x y → trail c f k gap x ≡ trail d f k gap y
   trail-same zero k gap (state s (ending zero v)) y b = rw (b .1 .0)
-  trail-same zero k gap (state s (ending (suc n) v)) y b = rw (b .1 .0, Q .falls s (b .0) (b .1 .1), Q .shows s (b .0) (b .1 .1))
-  trail-same (suc f) k gap (state s (ending (suc n) v)) y b = rw (b .1 .0, Q .falls s (b .0) (b .1 .1), Q .shows s (b .0) (b .1 .1))
+  trail-same zero k gap (state s (ending (suc n) v)) y b = rw (b .1 .0, Q .goes s (b .0) (b .1 .1), Q .shows s (b .0) (b .1 .1))
+  trail-same (suc f) k gap (state s (ending (suc n) v)) y b = rw (b .1 .0, Q .goes s (b .0) (b .1 .1), Q .shows s (b .0) (b .1 .1))
   trail-same (suc f) k gap (state s (ending zero v)) y b =
       rw (b .1 .0, Q .marks s (b .0) (b .1 .1), Q .shows s (b .0) (b .1 .1))
       (turn-same f k gap (d .mark (b .0)) (d .shown (b .0)) (step (c .next) (live s)) (step (d .next) (live (b .0)))
       (λ k gap. trail-same f k gap (step (c .next) (live s)) (step (d .next) (live (b .0))) (step-beside (live s) (live (b .0)) (b .0, (refl, b .1 .1)))))
 
-  pub from-same : (f k : ℕ) (x : State S) (y : State T) → Beside R x y → trailFrom c f k x ≡ trailFrom d f k y
-  from-same f k (state s (ending zero v)) y b = rw (b .1 .0) (trail-same f k 0 (state s (ending zero v)) (state (b .0) (ending zero v)) (b .0, (refl, b .1 .1)))
-  from-same f k (state s (ending (suc n) v)) y b = rw (b .1 .0, Q .shows s (b .0) (b .1 .1))
-
   -- where one strays, so does the other
-  pub strays-on : (goesBy : S → ℕ → Type 0) (goesBy′ : T → ℕ → Type 0) (placed : ℕ → Type 0) (inside : ℕ → Bool) (k : ℕ) (x : State S) (y : State T) (h : ℕ)
-      → Beside R x y → ((s : S) (t : T) → R s t → goesBy s h → goesBy′ t h) → Strays goesBy placed inside c k x h → Strays goesBy′ placed inside d k y h
-  strays-on goesBy goesBy′ placed inside k x y h b by s =
+  pub strays-on : (placed : ℕ → Type 0) (inside : ℕ → Bool) (k : ℕ) (x : State S) (y : State T) (h : ℕ) → Beside R x y → Strays placed inside c k x h
+      → Strays placed inside d k y h
+  strays-on placed inside k x y h b s =
       let q : Beside R (live (s .there)) (run (d .next) (s .steps) y) = rw (s .going) at (run-beside (s .steps) x y b) in
       record {
         steps = s .steps;
         there = q .0;
         going = q .1 .0;
-        by-held = by (s .there) (q .0) (q .1 .1) (s .by-held);
+        by-held = sym (Q .goes (s .there) (q .0) (q .1 .1)) ∙ s .by-held;
         in-image = s .in-image;
         no-place = s .no-place;
         room = rw (← stood-same (s .steps) x y b) (s .room);
@@ -98,7 +94,7 @@ flipped {c = c} {d = d} {R = R} q =
     record {
       marks = λ t s r. sym (q .marks s t r);
       shows = λ t s r. sym (q .shows s t r);
-      falls = λ t s r. sym (q .falls s t r);
+      goes = λ t s r. sym (q .goes s t r);
       steps = λ t s r. turned (c .next s) (d .next t) (q .steps s t r);
     }
   where
@@ -124,17 +120,17 @@ claim-by strays strays′ t u e c =
     }
 
 -- demand 3's conclusion goes over to cores that make the same trails and stray where the others do
-pub holds-on : {S T S′ T′ : Type 0} (goesBy : T → ℕ → Type 0) (goesBy′ : T′ → ℕ → Type 0) (placed : ℕ → Type 0) (inside : ℕ → Bool) (k : ℕ) (x y : Start)
+pub holds-on : {S T S′ T′ : Type 0} (placed : ℕ → Type 0) (inside : ℕ → Bool) (k : ℕ) (x y : Start)
     (o : Core S) (a : State S) (n : Core T) (b : State T) (o′ : Core S′) (a′ : State S′) (n′ : Core T′) (b′ : State T′)
     → trailOf o′ k a′ ≡ trailOf o k a → trailOf n′ k b′ ≡ trailOf n k b → Complete o′ k a′ → Complete n′ k b′
-    → ((h : ℕ) → Strays goesBy placed inside n k b h ↔ Strays goesBy′ placed inside n′ k b′ h)
-    → Holds goesBy placed inside k x y o a n b → Holds goesBy′ placed inside k x y o′ a′ n′ b′
-holds-on goesBy goesBy′ placed inside k x y o a n b o′ a′ n′ b′ t u co cn e H =
+    → ((h : ℕ) → Strays placed inside n k b h ↔ Strays placed inside n′ k b′ h)
+    → Holds placed inside k x y o a n b → Holds placed inside k x y o′ a′ n′ b′
+holds-on placed inside k x y o a n b o′ a′ n′ b′ t u co cn e H =
     record {
       old-begins = subst (Begins x) (sym t) (H .old-begins);
       new-begins = subst (Begins y) (sym u) (H .new-begins);
       old-complete = co;
       new-complete = cn;
-      claim = subst₂ (Claim (Strays goesBy′ placed inside n′ k b′)) (sym t) (sym u) (claim-by (Strays goesBy placed inside n k b) (Strays goesBy′ placed inside n′ k b′)
+      claim = subst₂ (Claim (Strays placed inside n′ k b′)) (sym t) (sym u) (claim-by (Strays placed inside n k b) (Strays placed inside n′ k b′)
           (trailOf o k a) (trailOf n k b) e (H .claim));
     }

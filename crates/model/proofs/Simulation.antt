@@ -58,7 +58,7 @@ module _ (image : List ℕ) (base db : ℕ) (ps : List Place) (records places : 
 
   -- going by a held address with no plain place: outside the image both end with 2 after that entry, inside the new core ends with 6
   astray : (k f i j a : ℕ) (m : Machine) (o : Option ℕ) → wordIn image base a ≡ o → 2 * k + 1 ≤ f → Pace 1 i → Pace 1 j → a % 4 ≡ 0
-      → Same 1 (O f k i (old m a (plus a 4) false)) (closes true k j (shownOf m) (lost (present o) a))
+      → Same 1 (O f k i (old m a (plus a 4) false)) (closes (some a) k j (shownOf m) (lost (present o) a))
   unfolding oldMark oldShown step settle oldNext fetches lost
   astray k zero i j a m o e l p q al = absurd (omega arith)
   astray zero (suc f) i j a m none e l p q al = both-cut

@@ -19,8 +19,9 @@ use Rattle.machine.proofs.Effects.{effects-end}
 use Rattle.model.specs.OldCore.{inImage, Transfer, illegal, straight, trap, call, bicc, jmpl, transferOf}
 use Rattle.model.specs.Records.{Rec, doWord, link, hold, goIf, goTo, goHeld, stop, unknown, rowsIn, recordsIn}
 use Rattle.model.specs.NewCore.{New, new, following, fit, doesWord, holds, chooses, seek, lost, goes, stops, does, newNext}
-use Rattle.model.specs.Cores.{shownOf, goesByHeld, newShown, newFell, newOver}
+use Rattle.model.specs.Cores.{shownOf, goesBy, newShown, newByHeld, newOver}
 use Rattle.model.proofs.Hop.{lands, left}
+use Rattle.model.proofs.Trails.{none-some}
 use Rattle.model.proofs.Middle.{linked}
 
 module _ (records places : List ℕ) (base size db : ℕ) where
@@ -106,11 +107,25 @@ module _ (records places : List ℕ) (base size db : ℕ) where
     unfolding newNext
     six-fell v e = six-do v (getElem? (recordsIn records) r) refl e
 
-    pub six-fell-true : getElem? (recordsIn records) r ≡ some goHeld → newFell records (new m r h) ≡ true
-    unfolding newFell goesByHeld
-    six-fell-true k = rw k
+    pub kind-6-goes : getElem? (recordsIn records) r ≡ some goHeld → newByHeld records (new m r h) ≡ some h
+    unfolding newByHeld goesBy
+    kind-6-goes k = rw k
 
-    pub six-lands : getElem? (recordsIn records) r ≡ some goHeld → seek (rowsIn places) h ≡ none → inImage base size h ≡ true
-        → left (newOver records places base size db) (new m r h) ≡ lands (shownOf m) (ending 6 h)
-    unfolding newNext newFell newShown goesByHeld does goes lost
-    six-lands k n i = rw (k, n, i)
+    six-kind : (v : ℕ) (o : Option (Rec ℕ)) → goesBy o h ≡ some v → (o ≡ some goHeld) × (v ≡ h)
+    unfolding goesBy
+    six-kind v none e = none-some e
+    six-kind v (some (doWord w)) e = none-some e
+    six-kind v (some (link p)) e = none-some e
+    six-kind v (some (hold w p)) e = none-some e
+    six-kind v (some (goIf cond to)) e = none-some e
+    six-kind v (some (goTo to)) e = none-some e
+    six-kind v (some goHeld) e = let z : v ≡ h = cc in (refl, z)
+    six-kind v (some (stop c p)) e = none-some e
+    six-kind v (some unknown) e = none-some e
+
+    pub six-lands : (v : ℕ) → newByHeld records (new m r h) ≡ some v → seek (rowsIn places) v ≡ none → inImage base size v ≡ true
+        → left (newOver records places base size db) (new m r h) ≡ lands v (shownOf m) (ending 6 v)
+    unfolding newNext newByHeld newShown goesBy does goes lost
+    six-lands v b n i =
+        let k = six-kind v (getElem? (recordsIn records) r) b in
+        rw (k .0, ← (k .1), n, i)

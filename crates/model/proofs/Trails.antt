@@ -2,15 +2,17 @@
 -- that a landing closes it.
 use Prim.Native.Nat.{ℕ, zero, suc, _+_, _≤_, _<_}
 use mathlib.Core.Path.{_≡_, refl, sym, ap, _∙_}
-use mathlib.Core.Bool.{Bool, true, false, false≢true}
 use mathlib.Core.Option.{Option, none, some}
 use native.Mathlib.Omega.{arith}
 use lib.ListN.{length}
 use Rattle.machine.specs.Ends.{Ending, ending, Next, go, halt, State, state, live, settle}
 use Rattle.machine.specs.Effect.{Machine}
 use Rattle.model.specs.Run.{step, run}
-use Rattle.model.specs.Trails.{Core, Trail, at, closes, turn, trail, entries, closing, Unspent, oneIf, stood, Traced}
+use Rattle.model.specs.Trails.{Core, Trail, at, closes, turn, trail, entries, later, closing, Unspent, oneIf, stood, Traced}
 use Rattle.model.proofs.Hop.{lands, endsBy, leaves, left, after, Over, settled}
+
+pub none-some : {A : Type 0} {h : ℕ} → none ≡ some h → A
+none-some e = let z : _≡_ {A = ℕ} 0 1 = cc in absurd (omega arith)
 
 zero-suc : {A : Type 0} {n v w : ℕ} → ending 0 v ≡ ending (suc n) w → A
 zero-suc {n = n} e = let z : _≡_ {A = ℕ} 0 (suc n) = cc in absurd (omega arith)
@@ -40,14 +42,14 @@ module _ {S : Type 0} (c : Core S) where
   none-turn f gap none m x ih = ih (suc gap)
   none-turn f gap (some a) m x ih = refl
 
-  none-closes : (b : Bool) (gap n v : ℕ) (m : Machine) → length (entries (closes b 0 gap m (ending n v))) ≡ 0
-  none-closes true gap n v m = refl
-  none-closes false gap n v m = refl
+  none-closes : (o : Option ℕ) (gap n v : ℕ) (m : Machine) → length (entries (closes o 0 gap m (ending n v))) ≡ 0
+  none-closes (some h) gap n v m = refl
+  none-closes none gap n v m = refl
 
   none-at-0 : (f gap : ℕ) (x : State S) → length (entries (trail c f 0 gap x)) ≡ 0
   none-at-0 zero gap (state s (ending zero v)) = refl
-  none-at-0 zero gap (state s (ending (suc n) v)) = none-closes (c .fell s) gap (suc n) v (c .shown s)
-  none-at-0 (suc f) gap (state s (ending (suc n) v)) = none-closes (c .fell s) gap (suc n) v (c .shown s)
+  none-at-0 zero gap (state s (ending (suc n) v)) = none-closes (c .byHeld s) gap (suc n) v (c .shown s)
+  none-at-0 (suc f) gap (state s (ending (suc n) v)) = none-closes (c .byHeld s) gap (suc n) v (c .shown s)
   none-at-0 (suc f) gap (state s (ending zero v)) =
       none-turn f gap (c .mark s) (c .shown s) (step (c .next) (live s)) (λ gap. none-at-0 f gap (step (c .next) (live s)))
 
@@ -66,15 +68,15 @@ module _ {S : Type 0} (c : Core S) where
       let r : Cut k (trail c f k 1 x) (trail c f (suc k) 1 x) = ih k 1 u in
       record { filled = λ e. ap suc (r .filled e); there = λ e. ap suc (r .there e); back = λ e. r .back (omega arith) }
 
-  cut-closes : (b : Bool) (k gap n v : ℕ) (m : Machine) → Cut k (closes b k gap m (ending (suc n) v)) (closes b (suc k) gap m (ending (suc n) v))
-  cut-closes false k gap n v m = record { filled = λ e. zero-suc (sym e); there = λ e. zero-suc (sym e); back = λ e. absurd (omega arith) }
-  cut-closes true zero gap n v m = record { filled = λ e. refl; there = λ e. refl; back = λ e. refl }
-  cut-closes true (suc k) gap n v m = record { filled = λ e. zero-suc (sym e); there = λ e. zero-suc (sym e); back = λ e. absurd (omega arith) }
+  cut-closes : (o : Option ℕ) (k gap n v : ℕ) (m : Machine) → Cut k (closes o k gap m (ending (suc n) v)) (closes o (suc k) gap m (ending (suc n) v))
+  cut-closes none k gap n v m = record { filled = λ e. zero-suc (sym e); there = λ e. zero-suc (sym e); back = λ e. absurd (omega arith) }
+  cut-closes (some h) zero gap n v m = record { filled = λ e. refl; there = λ e. refl; back = λ e. refl }
+  cut-closes (some h) (suc k) gap n v m = record { filled = λ e. zero-suc (sym e); there = λ e. zero-suc (sym e); back = λ e. absurd (omega arith) }
 
   pub cuts : (f k gap : ℕ) (x : State S) → Unspent (trail c f k gap x) → Cut k (trail c f k gap x) (trail c f (suc k) gap x)
   cuts zero k gap (state s (ending zero v)) u = absurd u
-  cuts zero k gap (state s (ending (suc n) v)) u = cut-closes (c .fell s) k gap n v (c .shown s)
-  cuts (suc f) k gap (state s (ending (suc n) v)) u = cut-closes (c .fell s) k gap n v (c .shown s)
+  cuts zero k gap (state s (ending (suc n) v)) u = cut-closes (c .byHeld s) k gap n v (c .shown s)
+  cuts (suc f) k gap (state s (ending (suc n) v)) u = cut-closes (c .byHeld s) k gap n v (c .shown s)
   cuts (suc f) k gap (state s (ending zero v)) u =
       cut-turn f k gap (c .mark s) (c .shown s) (step (c .next) (live s)) (λ k gap. cuts f k gap (step (c .next) (live s))) u
 
@@ -90,24 +92,27 @@ module _ {S : Type 0} (c : Core S) where
   run-ended (suc n) z v s = run-ended n z v s
 
   -- -------------------------------------------------------------- each entry is of a state of the run
-  traced-closes : (k gap n v : ℕ) (w : State S) (s : S) (b : Bool) → c .fell s ≡ b → run (c .next) gap w ≡ state s (ending (suc n) v)
-      → Traced c w (closes b k gap (c .shown s) (ending (suc n) v))
-  traced-closes k gap n v w s false q e = tt
-  traced-closes zero gap n v w s true q e = tt
-  traced-closes (suc k) gap n v w s true q e = rw e ((q, refl, refl), tt)
+  abbrev pub Shows : State S → Trail → Type 0
+  Shows w t = Traced c w (later t) (entries t)
+
+  traced-closes : (k gap n v : ℕ) (w : State S) (s : S) (o : Option ℕ) → c .byHeld s ≡ o → run (c .next) gap w ≡ state s (ending (suc n) v)
+      → Shows w (closes o k gap (c .shown s) (ending (suc n) v))
+  traced-closes k gap n v w s none q e = tt
+  traced-closes zero gap n v w s (some h) q e = tt
+  traced-closes (suc k) gap n v w s (some h) q e = rw e ((q, refl), tt)
 
   traced-turn : (f k gap : ℕ) (w : State S) (s : S) (v : ℕ) (o : Option ℕ) → c .mark s ≡ o → run (c .next) gap w ≡ state s (ending zero v)
-      → ((k gap : ℕ) (w : State S) → run (c .next) gap w ≡ step (c .next) (live s) → Traced c w (trail c f k gap (step (c .next) (live s))))
-      → Traced c w (turn (trail c f) k gap o (c .shown s) (step (c .next) (live s)))
+      → ((k gap : ℕ) (w : State S) → run (c .next) gap w ≡ step (c .next) (live s) → Shows w (trail c f k gap (step (c .next) (live s))))
+      → Shows w (turn (trail c f) k gap o (c .shown s) (step (c .next) (live s)))
   unfolding run step
   traced-turn f k gap w s v none q e ih = ih k (suc gap) w (run-suc gap w ∙ ap (step (c .next)) e)
   traced-turn f zero gap w s v (some a) q e ih = tt
   traced-turn f (suc k) gap w s v (some a) q e ih = rw e ((q, refl), ih k 1 (state s (ending zero v)) refl)
 
-  pub traced-so : (f k gap : ℕ) (w z : State S) → run (c .next) gap w ≡ z → Traced c w (trail c f k gap z)
+  pub traced-so : (f k gap : ℕ) (w z : State S) → run (c .next) gap w ≡ z → Shows w (trail c f k gap z)
   traced-so zero k gap w (state s (ending zero v)) e = tt
-  traced-so zero k gap w (state s (ending (suc n) v)) e = traced-closes k gap n v w s (c .fell s) refl e
-  traced-so (suc f) k gap w (state s (ending (suc n) v)) e = traced-closes k gap n v w s (c .fell s) refl e
+  traced-so zero k gap w (state s (ending (suc n) v)) e = traced-closes k gap n v w s (c .byHeld s) refl e
+  traced-so (suc f) k gap w (state s (ending (suc n) v)) e = traced-closes k gap n v w s (c .byHeld s) refl e
   traced-so (suc f) k gap w (state s (ending zero v)) e =
       traced-turn f k gap w s v (c .mark s) refl e (λ k gap w. traced-so f k gap w (step (c .next) (live s)))
 
@@ -118,24 +123,24 @@ module _ {S : Type 0} (c : Core S) where
     pub last : S
     pub going : run (c .next) steps x ≡ live last
     pub halts : c .next last ≡ halt (ending (suc n) v)
-    pub room : c .fell last ≡ true → stood c steps x < k
+    pub room : (h : ℕ) → c .byHeld last ≡ some h → stood c steps x < k
 
   module _ (over : (s : S) → Over c (c .next s)) (n v : ℕ) where
     abbrev Ends : ℕ → Type 0
     Ends f = (k gap : ℕ) (s : S) → closing (trail c f k gap (live s)) ≡ ending (suc n) v → Unspent (trail c f k gap (live s)) → Ended k n v (live s)
 
     -- what fell lands, and has room where the trail closes with its end
-    ends-here : (f k j gap : ℕ) (s : S) (b : Bool) (e : Ending) → c .next s ≡ halt e → c .fell s ≡ b → oneIf (c .mark s) + j ≤ k
-        → closing (after c f j gap (endsBy b (c .shown s) e)) ≡ ending (suc n) v → Ended k n v (live s)
+    ends-here : (f k j gap : ℕ) (s : S) (o : Option ℕ) (e : Ending) → c .next s ≡ halt e → c .byHeld s ≡ o → oneIf (c .mark s) + j ≤ k
+        → closing (after c f j gap (endsBy o (c .shown s) e)) ≡ ending (suc n) v → Ended k n v (live s)
     unfolding run
-    ends-here f k j gap s false e q d l h =
-        record { steps = 0; last = s; going = refl; halts = q ∙ ap halt h; room = λ w. absurd (false≢true (sym d ∙ w)) }
-    ends-here f k zero gap s true (ending z y) q d l h = zero-suc h
-    ends-here f k (suc j) gap s true (ending z y) q d l h = record { steps = 0; last = s; going = refl; halts = q ∙ ap halt h; room = λ w. omega arith }
+    ends-here f k j gap s none e q d l y =
+        record { steps = 0; last = s; going = refl; halts = q ∙ ap halt y; room = λ h w. none-some (sym d ∙ w) }
+    ends-here f k zero gap s (some h) e q d l y = zero-suc y
+    ends-here f k (suc j) gap s (some h) e q d l y = record { steps = 0; last = s; going = refl; halts = q ∙ ap halt y; room = λ h w. omega arith }
 
     -- the step from s left r, with room for j entries after the one before s
     ends-after : (f k j gap : ℕ) (s : S) (r : Next S) → c .next s ≡ r → oneIf (c .mark s) + j ≤ k → Ends f
-        → closing (after c f j gap (leaves (c .fell s) (c .shown s) r)) ≡ ending (suc n) v → Unspent (after c f j gap (leaves (c .fell s) (c .shown s) r))
+        → closing (after c f j gap (leaves (c .byHeld s) (c .shown s) r)) ≡ ending (suc n) v → Unspent (after c f j gap (leaves (c .byHeld s) (c .shown s) r))
         → Ended k n v (live s)
     unfolding run step settle
     ends-after f k j gap s (go t) q l ih e u =
@@ -145,9 +150,9 @@ module _ {S : Type 0} (c : Core S) where
           last = i .last;
           going = rw q (i .going);
           halts = i .halts;
-          room = λ w. rw q (omega (arith, i .room w));
+          room = λ h w. rw q (omega (arith, i .room h w));
         }
-    ends-after f k j gap s (halt z) q l ih e u = ends-here f k j gap s (c .fell s) z q refl l e
+    ends-after f k j gap s (halt z) q l ih e u = ends-here f k j gap s (c .byHeld s) z q refl l e
 
     ends-turn : (f k gap : ℕ) (s : S) (o : Option ℕ) → c .mark s ≡ o → Ends f
         → closing (turn (trail c f) k gap o (c .shown s) (step (c .next) (live s))) ≡ ending (suc n) v
@@ -164,18 +169,15 @@ module _ {S : Type 0} (c : Core S) where
     ends-so (suc f) k gap s e u = ends-turn f k gap s (c .mark s) refl (λ k gap s. ends-so f k gap s) e u
 
   -- -------------------------------------------------------------- a landing closes the trail
-  module _ (over : (s : S) → Over c (c .next s)) (m : Machine) (e : Ending) (last : S) (landed : left c last ≡ lands m e) where
+  module _ (over : (s : S) → Over c (c .next s)) (h : ℕ) (m : Machine) (e : Ending) (last : S) (landed : left c last ≡ lands h m e) where
     abbrev Closes : ℕ → Type 0
     Closes n = (f k gap : ℕ) (s : S) → n < f → run (c .next) n (live s) ≡ live last → stood c n (live s) < k → closing (trail c f k gap (live s)) ≡ e
 
-    closing-lands : (k gap : ℕ) (e : Ending) → closing (closes true (suc k) gap m e) ≡ e
-    closing-lands k gap (ending n v) = refl
-
     close-here : (f k gap : ℕ) (o : Option ℕ) → c .mark last ≡ o → oneIf o < k → closing (turn (trail c f) k gap o (c .shown last) (step (c .next) (live last))) ≡ e
     close-here f zero gap o q l = absurd (omega arith)
-    close-here f (suc k) gap none q l = rw (settled c over f (suc k) (suc gap) last, landed) (closing-lands k (suc gap) e)
+    close-here f (suc k) gap none q l = rw (settled c over f (suc k) (suc gap) last, landed)
     close-here f (suc zero) gap (some b) q l = absurd (omega arith)
-    close-here f (suc (suc k)) gap (some b) q l = rw (settled c over f (suc k) 1 last, landed) (closing-lands k 1 e)
+    close-here f (suc (suc k)) gap (some b) q l = rw (settled c over f (suc k) 1 last, landed)
 
     close-on : (n f k gap : ℕ) (s t : S) (o : Option ℕ) → Closes n → n < f → run (c .next) n (live t) ≡ live last → oneIf o + stood c n (live t) < k
         → closing (turn (trail c f) k gap o (c .shown s) (live t)) ≡ e

@@ -1,15 +1,18 @@
 -- 01, Cases: those to be proved, as one table of numbers; case 0 has other readings of 01. What a row shows is computed from the definitions.
-use Prim.Native.Nat.{ℕ, zero, suc, _*_}
-use mathlib.Core.Bool.{true, false}
+use Prim.Native.Nat.{ℕ, _*_}
 use mathlib.Core.List.{List, [], _∷_, _++_}
-use lib.ListN.{getD, set, replicate}
+use lib.ListN.{length, getD, set, replicate}
 use Rattle.numbers.specs.Number.{bytesOf}
-use Rattle.machine.specs.Ends.{ending, Next, State, state}
+use Rattle.machine.specs.Ends.{Ending, ending, Next, State, state, live}
 use Rattle.machine.specs.Effect.{machine}
-use Rattle.model.specs.Run.{step, run}
-use Rattle.model.specs.Translation.{Handed, answerNumbers, translation}
-use Rattle.model.specs.Records.{numbersIn}
+use Rattle.model.specs.Run.{run}
 use Rattle.model.specs.OldCore.{Old, old, oldNext, oldBegun}
+use Rattle.model.specs.Records.{numbersIn}
+use Rattle.model.specs.NewCore.{New, new, newNext}
+use Rattle.model.specs.Translation.{Handed, answerNumbers, translation}
+use Rattle.model.specs.Trails.{Trail, trail, Entry, entry, entries, later, closing}
+use Rattle.model.specs.StateBytes.{newBegins}
+use Rattle.model.specs.Cores.{Start, oldOver, newOver, oldBegin, newBegin, stepsFor, trailOf, newTrailAt}
 
 -- the case's number, what the definitions give, what 01 says
 pub record Row : Type 0 where
@@ -17,17 +20,7 @@ pub record Row : Type 0 where
   pub got : List ℕ
   pub want : List ℕ
 
--- the address before a step in which annul is clear and the run has not ended
-unfoldable pub address : State Old → List ℕ
-address (state (old m pc npc true) e) = []
-address (state (old m pc npc false) (ending zero v)) = pc ∷ []
-address (state (old m pc npc false) (ending (suc n) v)) = []
-
--- the addresses before the first n steps
-unfoldable pub addresses : (Old → Next Old) → ℕ → State Old → List ℕ
-addresses next zero x = []
-addresses next (suc n) x = address x ++ addresses next n (step next x)
-
+-- ---------------------------------------------------------------- single words
 -- an image of words at base 0, with no data
 unfoldable pub over : List ℕ → Old → Next Old
 over words = oldNext (bytesOf words) 0 0
@@ -40,8 +33,23 @@ start i v flags = oldBegun 0 (machine (set (replicate 32 0) i v) flags [])
 unfoldable pub shown : ℕ → State Old → List ℕ
 shown i (state (old m pc npc annul) e) = getD (m .registers) i 0 ∷ m .flags ∷ []
 
+unfoldable pub endOf : Ending → List ℕ
+endOf (ending n v) = n ∷ v ∷ []
+
 unfoldable pub ended : State Old → List ℕ
-ended (state s (ending n v)) = n ∷ v ∷ []
+ended (state s e) = endOf e
+
+unfoldable pub newEnded : State New → List ℕ
+newEnded (state s e) = endOf e
+
+-- how the new core stands after the step at record r, of records of three numbers each
+unfoldable pub stepAt : ℕ → List ℕ → List ℕ
+stepAt r records = newEnded (run (newNext (bytesOf records) [] 0 0 0) 1 (live (new (machine (replicate 32 0) 0 []) r 0)))
+
+-- ---------------------------------------------------------------- translations
+-- the answer's numbers, and the bytes of both buffers
+unfoldable pub bytesBack : Handed → List ℕ
+bytesBack h = answerNumbers (h .answer) ++ h .places ++ h .records
 
 -- the translation of an image of words at base 0, for entries and the lengths of both buffers: the answer's numbers
 unfoldable pub given : List ℕ → List ℕ → ℕ → ℕ → Handed
@@ -56,25 +64,52 @@ listed p r words =
     let handed = given words (0 ∷ []) (16 * p) (12 * r) in
     answerNumbers (handed .answer) ++ numbersIn (handed .places) ++ numbersIn (handed .records)
 
+-- ---------------------------------------------------------------- trails
+-- of each entry: the steps that lead to it, its address and what it shows of register 1
+unfoldable pub entriesTold : List ℕ → List Entry → List ℕ
+entriesTold [] es = []
+entriesTold (n ∷ ns) [] = []
+entriesTold (n ∷ ns) (entry a m ∷ es) = n ∷ a ∷ getD (m .registers) 1 0 ∷ entriesTold ns es
+
+-- and how the trail closes
+unfoldable pub told : Trail → List ℕ
+told t = entriesTold (later t) (entries t) ++ endOf (closing t)
+
+-- begun at an address with register 1 and the flags set, and no data
+unfoldable pub begins : ℕ → ℕ → ℕ → Start
+begins a v flags = record { address = a; registers = 0 ∷ v ∷ []; flags = flags; area = [] }
+
+-- the old core's trail over an image of words at base 0, cut at k entries
+unfoldable pub oldTold : List ℕ → Start → ℕ → List ℕ
+oldTold words x k = told (trailOf (oldOver (bytesOf words) 0 0) k (oldBegin x))
+
+-- the new core's over its translation for entry 0, which has just so many places and records
+unfoldable pub newTold : ℕ → ℕ → List ℕ → Start → ℕ → List ℕ
+newTold p r words x k =
+    let handed = given words (0 ∷ []) (16 * p) (12 * r) in
+    let size = length (bytesOf words) in
+    told (newTrailAt (newOver (handed .records) (handed .places) 0 size 0) (stepsFor k) k (x .address) (newBegin (handed .places) 0 size x))
+
+-- ---------------------------------------------------------------- images
 -- ba 12; add 1 to register 1; illegal; ta 0
 abbrev pub p1 : List ℕ
 p1 = 0x10800003 ∷ 0x82006001 ∷ 0x00000000 ∷ 0x91D02000 ∷ []
-
--- ba 8 at 0
-abbrev pub p3 : List ℕ
-p3 = 0x10800002 ∷ 0x82006001 ∷ 0x91D02000 ∷ []
-
--- jmpl through register 15 without link, then ba
-abbrev pub p7 : List ℕ
-p7 = 0x81C3E008 ∷ 0x10800003 ∷ []
 
 -- ba 16 at 0, ba 24 at 4, add at 16, ta at 24, else 0
 abbrev pub p2 : List ℕ
 p2 = 0x10800004 ∷ 0x10800005 ∷ 0 ∷ 0 ∷ 0x82006001 ∷ 0 ∷ 0x91D02000 ∷ []
 
+-- ba 8 at 0
+abbrev pub p3 : List ℕ
+p3 = 0x10800002 ∷ 0x82006001 ∷ 0x91D02000 ∷ []
+
 -- be,a 16 at 0
 abbrev pub p4 : List ℕ
 p4 = 0x22800004 ∷ 0x82006001 ∷ 0x82006001 ∷ 0x91D02000 ∷ 0x91D02000 ∷ []
+
+-- jmpl through register 15 without link, then ba
+abbrev pub p7 : List ℕ
+p7 = 0x81C3E008 ∷ 0x10800003 ∷ []
 
 -- subcc %g0, 1, %g1; addcc %g1, 1, %g1; jmpl %g1 + 0, %g1
 abbrev pub p8 : List ℕ
@@ -100,6 +135,14 @@ jumpsOn = 0x83C06000 ∷ nop ∷ nop ∷ nop ∷ nop ∷ []
 abbrev pub loads : List ℕ
 loads = 0xC4006000 ∷ []
 
+-- call 12; nop; ta 0; jmpl %o7 + 8, as a function returns; nop
+abbrev pub returns : List ℕ
+returns = 0x40000003 ∷ nop ∷ 0x91D02000 ∷ 0x81C3E008 ∷ nop ∷ []
+
+-- jmpl %g1 + 0 without link; add 1 to register 1; two words that nothing names
+abbrev pub strays : List ℕ
+strays = 0x81C06000 ∷ 0x82006001 ∷ nop ∷ nop ∷ []
+
 abbrev row : ℕ → List ℕ → List ℕ → Row
 row p got want = record { case = p; got = got; want = want }
 
@@ -108,18 +151,18 @@ cases =
     -- "P1 the listing"
     row 1 (listed 3 4 p1)
     (0 ∷ 3 ∷ 4 ∷ 0 ∷ 4 ∷ 0 ∷ 0 ∷ 4 ∷ 12 ∷ 1 ∷ 1 ∷ 12 ∷ 16 ∷ 0 ∷ 3 ∷ 5 ∷ 1 ∷ 0 ∷ 1 ∷ 2181062657 ∷ 0 ∷ 5 ∷ 3 ∷ 0 ∷ 1 ∷ 2446336000 ∷ 0 ∷ [])
-    -- "addresses 0, 4, 16, 24 run, 20 does not", and ta 0 ends the run
-    ∷ row 2 (addresses (over p2) 9 (start 1 0 0)) (0 ∷ 4 ∷ 16 ∷ 24 ∷ [])
-    ∷ row 2 (ended (run (over p2) 9 (start 1 0 0))) (1 ∷ 0 ∷ [])
+    -- "addresses 0, 4, 16, 24 run, 20 does not", on both cores, and ta 0 ends the run
+    ∷ row 2 (oldTold p2 (begins 0 0 0) 9) (0 ∷ 0 ∷ 0 ∷ 1 ∷ 4 ∷ 0 ∷ 1 ∷ 16 ∷ 0 ∷ 1 ∷ 24 ∷ 1 ∷ 1 ∷ 0 ∷ [])
+    ∷ row 2 (newTold 4 5 p2 (begins 0 0 0) 9) (0 ∷ 0 ∷ 0 ∷ 1 ∷ 4 ∷ 0 ∷ 1 ∷ 16 ∷ 0 ∷ 2 ∷ 24 ∷ 1 ∷ 1 ∷ 0 ∷ [])
     -- "4 places, 5 records"
     ∷ row 2 (answered p2 64 60) (0 ∷ 4 ∷ 5 ∷ [])
     -- "ba 8 at 0: place 1 is plain 4"
     ∷ row 3 (listed 3 4 p3)
     (0 ∷ 3 ∷ 4 ∷ 0 ∷ 4 ∷ 0 ∷ 0 ∷ 4 ∷ 8 ∷ 0 ∷ 1 ∷ 8 ∷ 12 ∷ 0 ∷ 3 ∷ 5 ∷ 1 ∷ 0 ∷ 1 ∷ 2181062657 ∷ 0 ∷ 5 ∷ 3 ∷ 0 ∷ 1 ∷ 2446336000 ∷ 0 ∷ [])
-    -- "Z clear: 8 follows"
-    ∷ row 4 (addresses (over p4) 3 (start 1 0 0)) (0 ∷ 8 ∷ [])
-    -- "the same, Z set: 4, then 16"
-    ∷ row 5 (addresses (over p4) 3 (start 1 0 4)) (0 ∷ 4 ∷ 16 ∷ [])
+    -- "Z clear: 8 follows", two words further
+    ∷ row 4 (oldTold p4 (begins 0 0 0) 2) (0 ∷ 0 ∷ 0 ∷ 2 ∷ 8 ∷ 0 ∷ 0 ∷ 0 ∷ [])
+    -- "the same, Z set: 4, then 16", where ta 0 ends the run
+    ∷ row 5 (oldTold p4 (begins 0 0 4) 9) (0 ∷ 0 ∷ 0 ∷ 1 ∷ 4 ∷ 0 ∷ 1 ∷ 16 ∷ 1 ∷ 1 ∷ 0 ∷ [])
     -- "ba,a to itself (0x30800000): one place, one record"
     ∷ row 6 (listed 1 1 (0x30800000 ∷ [])) (0 ∷ 1 ∷ 1 ∷ 0 ∷ 4 ∷ 0 ∷ 0 ∷ 5 ∷ 0 ∷ 0 ∷ [])
     -- "0x81C3E008 then ba: refusal 4, address 4"
@@ -140,8 +183,62 @@ cases =
     ∷ row 11 (answerNumbers (given (0 ∷ []) (replicate 65 0) 16 12 .answer)) (3 ∷ 0 ∷ 0 ∷ [])
     -- further readings that tempt and are wrong: linking p + 8; jmpl's address taken after rd is written; alignment tested after fit
     ∷ row 0 (shown 15 (run (over callsOn) 2 (start 1 0 0))) (4 ∷ 0 ∷ [])
-    ∷ row 0 (addresses (over jumpsOn) 3 (start 1 16 0)) (0 ∷ 4 ∷ 16 ∷ [])
+    ∷ row 0 (oldTold jumpsOn (begins 0 16 0) 3) (0 ∷ 0 ∷ 16 ∷ 1 ∷ 4 ∷ 0 ∷ 1 ∷ 16 ∷ 0 ∷ 0 ∷ 0 ∷ [])
     ∷ row 0 (ended (run (over loads) 1 (start 1 2 0))) (4 ∷ 2 ∷ [])
+    -- "call to t: (n, t), then plain p + 8"; "Kind 2, held: .. (shown as 0)"; "Call: 2 (p), 5. Jmpl: 3, 5."; "Held: 1, 6"
+    ∷ row 0 (listed 5 9 returns)
+    (0 ∷ 5 ∷ 9
+    ∷ 0 ∷ 4 ∷ 0 ∷ 0 ∷ 4 ∷ 12 ∷ 1 ∷ 2 ∷ 8 ∷ 12 ∷ 0 ∷ 4 ∷ 12 ∷ 16 ∷ 0 ∷ 5 ∷ 16 ∷ 0 ∷ 2 ∷ 7
+    ∷ 2 ∷ 0 ∷ 0 ∷ 5 ∷ 2 ∷ 0 ∷ 1 ∷ 0x01000000 ∷ 0 ∷ 5 ∷ 5 ∷ 0 ∷ 1 ∷ 0x91D02000 ∷ 0 ∷ 3 ∷ 0x81C3E008 ∷ 12 ∷ 5 ∷ 7 ∷ 0 ∷ 1 ∷ 0x01000000 ∷ 0 ∷ 6 ∷ 0 ∷ 0
+    ∷ [])
+    -- "jmpl: held n, then plain p + 8 if rd is not 0"; "Outside ..: one 7 (end 2 ..)"
+    ∷ row 0 (listed 3 5 (0x83C06000 ∷ nop ∷ []))
+    (0 ∷ 3 ∷ 5
+    ∷ 0 ∷ 4 ∷ 0 ∷ 0 ∷ 4 ∷ 0 ∷ 2 ∷ 2 ∷ 8 ∷ 12 ∷ 0 ∷ 4
+    ∷ 3 ∷ 0x83C06000 ∷ 0 ∷ 5 ∷ 2 ∷ 0 ∷ 1 ∷ 0x01000000 ∷ 0 ∷ 6 ∷ 0 ∷ 0 ∷ 7 ∷ 2 ∷ 8
+    ∷ [])
+    -- "Bicc 0 with annul: plain n + 4."; an illegal word: "one 7 (.. 3, address p)"
+    ∷ row 0 (listed 2 2 (0x20800004 ∷ nop ∷ 0 ∷ [])) (0 ∷ 2 ∷ 2 ∷ 0 ∷ 4 ∷ 0 ∷ 0 ∷ 8 ∷ 12 ∷ 0 ∷ 1 ∷ 5 ∷ 1 ∷ 0 ∷ 7 ∷ 3 ∷ 8 ∷ [])
+    -- a held place: "Outside or illegal: one 7 .. Ticc 8: one 1. Held: 1, 6. .. The first that fits applies."
+    ∷ row 0 (listed 2 3 (0x81C3E008 ∷ [])) (0 ∷ 2 ∷ 3 ∷ 0 ∷ 4 ∷ 0 ∷ 0 ∷ 4 ∷ 0 ∷ 2 ∷ 2 ∷ 3 ∷ 0x81C3E008 ∷ 0 ∷ 5 ∷ 2 ∷ 0 ∷ 7 ∷ 2 ∷ 4 ∷ [])
+    ∷ row 0 (listed 2 3 (0x81C3E008 ∷ 0 ∷ [])) (0 ∷ 2 ∷ 3 ∷ 0 ∷ 4 ∷ 0 ∷ 0 ∷ 4 ∷ 0 ∷ 2 ∷ 2 ∷ 3 ∷ 0x81C3E008 ∷ 0 ∷ 5 ∷ 2 ∷ 0 ∷ 7 ∷ 3 ∷ 4 ∷ [])
+    ∷ row 0 (listed 2 3 (0x81C3E008 ∷ 0x91D02000 ∷ []))
+    (0 ∷ 2 ∷ 3 ∷ 0 ∷ 4 ∷ 0 ∷ 0 ∷ 4 ∷ 0 ∷ 2 ∷ 2 ∷ 3 ∷ 0x81C3E008 ∷ 0 ∷ 5 ∷ 2 ∷ 0 ∷ 1 ∷ 0x91D02000 ∷ 0 ∷ [])
+    -- "7 a record past the last, of unknown kind, with an unfit word (kind 1: illegal, call, jmpl or any Bicc but 0 without annul; kind 3:
+    -- anything but jmpl), a condition above 15 or a kind 7 whose first is not 2 or 3, with the record number"
+    ∷ row 0 (stepAt 1 (1 ∷ nop ∷ 0 ∷ [])) (7 ∷ 1 ∷ [])
+    ∷ row 0 (stepAt 0 (8 ∷ 0 ∷ 0 ∷ [])) (7 ∷ 0 ∷ [])
+    ∷ row 0 (stepAt 0 (1 ∷ 0 ∷ 0 ∷ [])) (7 ∷ 0 ∷ [])
+    ∷ row 0 (stepAt 0 (1 ∷ 0x40000003 ∷ 0 ∷ [])) (7 ∷ 0 ∷ [])
+    ∷ row 0 (stepAt 0 (1 ∷ 0x81C3E008 ∷ 0 ∷ [])) (7 ∷ 0 ∷ [])
+    ∷ row 0 (stepAt 0 (1 ∷ 0x20800004 ∷ 0 ∷ [])) (7 ∷ 0 ∷ [])
+    ∷ row 0 (stepAt 0 (1 ∷ 0x00800004 ∷ 0 ∷ [])) (0 ∷ 0 ∷ [])
+    ∷ row 0 (stepAt 0 (3 ∷ nop ∷ 0 ∷ [])) (7 ∷ 0 ∷ [])
+    ∷ row 0 (stepAt 0 (4 ∷ 16 ∷ 0 ∷ [])) (7 ∷ 0 ∷ [])
+    ∷ row 0 (stepAt 0 (7 ∷ 4 ∷ 0 ∷ [])) (7 ∷ 0 ∷ [])
+    -- "exactly the given count was done .. and no end met": the trail of a run of one word closes with 0
+    ∷ row 0 (told (trail (oldOver (bytesOf p1) 0 0) 1 9 0 (oldBegin (begins 0 7 0)))) (0 ∷ 0 ∷ 7 ∷ 0 ∷ 0 ∷ [])
+    -- the listing's image, on both cores
+    ∷ row 0 (oldTold p1 (begins 0 7 0) 9) (0 ∷ 0 ∷ 7 ∷ 1 ∷ 4 ∷ 7 ∷ 1 ∷ 12 ∷ 8 ∷ 1 ∷ 0 ∷ [])
+    ∷ row 0 (newTold 3 4 p1 (begins 0 7 0) 9) (0 ∷ 0 ∷ 7 ∷ 1 ∷ 4 ∷ 7 ∷ 2 ∷ 12 ∷ 8 ∷ 1 ∷ 0 ∷ [])
+    -- the one exception: the new core goes by the held address 12, which no place has; "and the cut leaves room for the entry at that address"
+    ∷ row 0 (newTold 2 4 strays (begins 0 12 0) 9) (0 ∷ 0 ∷ 12 ∷ 2 ∷ 4 ∷ 12 ∷ 2 ∷ 12 ∷ 13 ∷ 6 ∷ 12 ∷ [])
+    ∷ row 0 (newTold 2 4 strays (begins 0 12 0) 2) (0 ∷ 0 ∷ 12 ∷ 2 ∷ 4 ∷ 12 ∷ 0 ∷ 0 ∷ [])
+    ∷ row 0 (oldTold strays (begins 0 12 0) 3) (0 ∷ 0 ∷ 12 ∷ 1 ∷ 4 ∷ 12 ∷ 1 ∷ 12 ∷ 13 ∷ 0 ∷ 0 ∷ [])
+    -- begun at an address without a plain place, "as kind 6 would": an entry there, and 6 inside the image, 2 outside
+    ∷ row 0 (newTold 2 4 strays (begins 8 5 0) 9) (0 ∷ 8 ∷ 5 ∷ 6 ∷ 8 ∷ [])
+    ∷ row 0 (newTold 2 4 strays (begins 16 5 0) 9) (0 ∷ 16 ∷ 5 ∷ 2 ∷ 16 ∷ [])
+    -- the bytes that such a begin leaves: all registers and flags as they were, record 0, held address 0, end 6 and the address
+    ∷ row 0 (numbersIn (newBegins [] 0 16 8 (bytesOf (replicate 37 7)) .state)) (0 ∷ replicate 31 7 ++ (7 ∷ 0 ∷ 0 ∷ 6 ∷ 8 ∷ []))
+    -- each refusal, with both buffers: "Every refusal fills both buffers with 0"
+    ∷ row 0 (bytesBack (translation [] 0 (bytesOf (0 ∷ [])) 3 5 0)) (1 ∷ 0 ∷ 0 ∷ replicate 8 0)
+    ∷ row 0 (bytesBack (translation (1 ∷ 2 ∷ []) 0 (bytesOf (0 ∷ [])) 3 5 0)) (1 ∷ 2 ∷ 0 ∷ replicate 8 0)
+    ∷ row 0 (bytesBack (translation (bytesOf p1) 2 (bytesOf (0 ∷ [])) 48 48 0)) (2 ∷ 2 ∷ 0 ∷ replicate 96 0)
+    ∷ row 0 (bytesBack (translation (bytesOf p1) 0 (bytesOf []) 48 48 0)) (3 ∷ 0 ∷ 0 ∷ replicate 96 0)
+    ∷ row 0 (bytesBack (translation (bytesOf p1) 0 (bytesOf (0 ∷ 16 ∷ [])) 48 48 2)) (3 ∷ 2 ∷ 0 ∷ replicate 96 0)
+    ∷ row 0 (bytesBack (given p7 (0 ∷ []) 48 48)) (4 ∷ 4 ∷ 0 ∷ replicate 96 0)
+    ∷ row 0 (bytesBack (given p1 (0 ∷ []) 47 48)) (5 ∷ 12 ∷ 0 ∷ replicate 95 0)
+    ∷ row 0 (bytesBack (given p1 (0 ∷ []) 48 47)) (6 ∷ 4 ∷ 0 ∷ replicate 95 0)
     ∷ []
 
 pub noCase : Row

@@ -1,19 +1,19 @@
 -- Both cores with what 01 feeds each and nothing else, their starts, and the marks of their trails.
-use Prim.Native.Nat.{ℕ, _+_, _*_}
-use mathlib.Core.Bool.{Bool, true, false}
+use Prim.Native.Nat.{ℕ, zero, suc, _+_, _*_}
+use mathlib.Core.Bool.{true, false}
 use mathlib.Core.List.{List, [], _∷_}
 use mathlib.Core.Option.{Option, none, some}
 use lib.Dec.{eqb}
-use lib.ListN.{length, getD, getElem?}
+use lib.ListN.{getD, getElem?}
 use Rattle.numbers.specs.Choice.{pick}
 use Rattle.numbers.specs.Number.{upTo}
-use Rattle.machine.specs.Ends.{State}
+use Rattle.machine.specs.Ends.{ending, State, state}
 use Rattle.machine.specs.Effect.{Machine, machine}
 use Rattle.model.specs.Run.{dataOf}
 use Rattle.model.specs.OldCore.{Old, old, oldNext, oldBegun}
 use Rattle.model.specs.Records.{Rec, doWord, link, hold, goIf, goTo, goHeld, stop, unknown, Row, row, rowsIn, recordsIn}
 use Rattle.model.specs.NewCore.{New, new, newNext, newBegun}
-use Rattle.model.specs.Trails.{Core, Trail, trailFrom}
+use Rattle.model.specs.Trails.{Core, Trail, landing, trail}
 
 -- what an entry shows: "Register 0 reads and shows as 0", registers 1 to 31, the flags, and the data, of which there are at most 65,536 bytes
 unfoldable pub shownOf : Machine → Machine
@@ -29,7 +29,7 @@ oldShown (old m pc npc annul) = shownOf m
 
 -- "The old core is fed image, base, data base, its own state and the data area, and nothing of a translation."
 abbrev pub oldOver : List ℕ → ℕ → ℕ → Core Old
-oldOver image base db = record { next = oldNext image base db; mark = oldMark; shown = oldShown; fell = λ s. false }
+oldOver image base db = record { next = oldNext image base db; mark = oldMark; shown = oldShown; byHeld = λ s. none }
 
 -- "An entry also stands before each group's first record; its address is its place's, in a malformed table that of the lowest-numbered
 -- place naming that record"
@@ -43,25 +43,25 @@ newMark places (new m r h) = naming (rowsIn places) r
 unfoldable pub newShown : New → Machine
 newShown (new m r h) = shownOf m
 
--- whether the record at hand goes by the held address
-unfoldable pub goesByHeld : Option (Rec ℕ) → Bool
-goesByHeld none = false
-goesByHeld (some (doWord w)) = false
-goesByHeld (some (link p)) = false
-goesByHeld (some (hold w p)) = false
-goesByHeld (some (goIf c r)) = false
-goesByHeld (some (goTo r)) = false
-goesByHeld (some goHeld) = true
-goesByHeld (some (stop e p)) = false
-goesByHeld (some unknown) = false
+-- "6 go by the held address", h: no other record does
+unfoldable pub goesBy : Option (Rec ℕ) → ℕ → Option ℕ
+goesBy none h = none
+goesBy (some (doWord w)) h = none
+goesBy (some (link p)) h = none
+goesBy (some (hold w p)) h = none
+goesBy (some (goIf c r)) h = none
+goesBy (some (goTo r)) h = none
+goesBy (some goHeld) h = some h
+goesBy (some (stop e p)) h = none
+goesBy (some unknown) h = none
 
-unfoldable pub newFell : List ℕ → New → Bool
-newFell records (new m r h) = goesByHeld (getElem? (recordsIn records) r)
+unfoldable pub newByHeld : List ℕ → New → Option ℕ
+newByHeld records (new m r h) = goesBy (getElem? (recordsIn records) r) h
 
 -- "The new core is given records, place table, base and image length", as bytes, and the data base.
 abbrev pub newOver : List ℕ → List ℕ → ℕ → ℕ → ℕ → Core New
 newOver records places base size db =
-    record { next = newNext records places base size db; mark = newMark places; shown = newShown; fell = newFell records }
+    record { next = newNext records places base size db; mark = newMark places; shown = newShown; byHeld = newByHeld records }
 
 -- where a run begins, and with "any registers, flags and data"
 pub record Start : Type 0 where
@@ -84,5 +84,11 @@ newBegin places base size x = newBegun places base size (x .address) (startMachi
 abbrev pub stepsFor : ℕ → ℕ
 stepsFor k = 2 * k + 1
 
+-- the trail of a core begun so, cut at k entries
 abbrev pub trailOf : {S : Type 0} → Core S → ℕ → State S → Trail
-trailOf c k x = trailFrom c (stepsFor k) k x
+trailOf c k x = trail c (stepsFor k) k 0 x
+
+-- the new core's trail, of a run of a given count, where it was begun at a: "(with none, as kind 6 would)", the one entry at a, and its end
+unfoldable pub newTrailAt : Core New → ℕ → ℕ → ℕ → State New → Trail
+newTrailAt c count k a (state s (ending zero v)) = trail c count k 0 (state s (ending zero v))
+newTrailAt c count k a (state s (ending (suc n) v)) = landing k 0 a (c .shown s) (ending (suc n) v)

@@ -1,10 +1,11 @@
 -- Demand 3 as a loader sees it: trails read off the bytes that the exported functions leave, each call being a run of count 1 on the
--- state and data bytes that the last one left.
-use Prim.Native.Nat.{ℕ, zero, suc, _*_, _%_, _^_, _≤_, _<_}
+-- state and data bytes that the last one left. A call that ends leaves bytes too, which no further entry shows: `old-runs-add` and
+-- `new-runs-add` (proofs/Interface) cover them, since by them the call's bytes are those of one run of as many steps from the first bytes,
+-- and of such a run the contracts say every byte.
+use Prim.Native.Nat.{ℕ, zero, suc, _*_, _%_, _≤_}
 use mathlib.Core.Path.{_≡_}
 use mathlib.Core.List.{List, [], _∷_}
 use mathlib.Core.Option.{Option, none, some}
-use mathlib.Core.Bool.{Bool, false}
 use lib.Dec.{eqb}
 use lib.ListN.{getElem?, length, take}
 use Rattle.numbers.specs.Choice.{pick}
@@ -13,10 +14,10 @@ use Rattle.machine.specs.Ends.{Ending, ending, Next, go, halt, State, state, li
 use Rattle.machine.specs.Effect.{Machine, machine}
 use Rattle.model.specs.Run.{dataOf}
 use Rattle.model.specs.OldCore.{inImage}
-use Rattle.model.specs.Records.{Rec, goHeld, rowsIn, recordsIn}
+use Rattle.model.specs.Records.{rowsIn, recordsIn}
 use Rattle.model.specs.Translation.{HandsBack}
 use Rattle.model.specs.Trails.{Core}
-use Rattle.model.specs.Cores.{naming, goesByHeld, Start}
+use Rattle.model.specs.Cores.{naming, goesBy, Start}
 use Rattle.model.specs.Demand3.{Placed, Holds}
 use Rattle.model.specs.StateBytes.{After, oldBegins, oldRuns, newBegins, newRuns}
 
@@ -46,14 +47,14 @@ oldBytesMark b = pick (eqb (numberAt (b .state) 140) 0) (some (numberAt (b .stat
 
 abbrev pub oldCalls : List ℕ → ℕ → ℕ → Core Bytes
 oldCalls image base db =
-    record { next = λ b. called (oldRuns image base db 1 (b .state) (b .area)); mark = oldBytesMark; shown = bytesShown; fell = λ b. false }
+    record { next = λ b. called (oldRuns image base db 1 (b .state) (b .area)); mark = oldBytesMark; shown = bytesShown; byHeld = λ b. none }
 
 -- the new core: the record number is number 33, the held address number 34
 unfoldable pub newBytesMark : List ℕ → Bytes → Option ℕ
 newBytesMark places b = naming (rowsIn places) (numberAt (b .state) 132)
 
-unfoldable pub newBytesFell : List ℕ → Bytes → Bool
-newBytesFell records b = goesByHeld (getElem? (recordsIn records) (numberAt (b .state) 132))
+unfoldable pub newBytesByHeld : List ℕ → Bytes → Option ℕ
+newBytesByHeld records b = goesBy (getElem? (recordsIn records) (numberAt (b .state) 132)) (numberAt (b .state) 136)
 
 abbrev pub newCalls : List ℕ → List ℕ → ℕ → ℕ → ℕ → Core Bytes
 newCalls records places base size db =
@@ -61,12 +62,8 @@ newCalls records places base size db =
       next = λ b. called (newRuns records places base size db 1 (b .state) (b .area));
       mark = newBytesMark places;
       shown = bytesShown;
-      fell = newBytesFell records;
+      byHeld = newBytesByHeld records;
     }
-
--- a kind 6 is at hand, and h is the held address
-abbrev pub BytesGoBy : List (Rec ℕ) → Bytes → ℕ → Type 0
-BytesGoBy records b h = (getElem? records (numberAt (b .state) 132) ≡ some goHeld) × (numberAt (b .state) 136 ≡ h)
 
 -- begun at an address: begin keeps registers and flags; the data area is lent to the runs alone
 abbrev pub oldStarted : ℕ → Bytes → State Bytes
@@ -88,12 +85,12 @@ Interface =
     (image : List ℕ) (base : ℕ) (entryList : List ℕ) (placesLength recordsLength placeCount recordCount : ℕ) (table list : List ℕ)
     → Below 256 image → Below 256 entryList
     → HandsBack image base entryList placesLength recordsLength (0 ∷ placeCount ∷ recordCount ∷ []) table list
-    -- for each core any bytes of a state and any data, and an address, of 32 bits, with a plain place
-    → (b c : Bytes) → Below 256 (b .state) → Below 256 (b .area) → Below 256 (c .state) → Below 256 (c .area)
-    → (p q : ℕ) → p < 2 ^ 32 → q < 2 ^ 32 → Placed image base entryList p → Placed image base entryList q
+    -- for each core any bytes of a state and any data, and an address with a plain place
+    → (b b′ : Bytes) → Below 256 (b .state) → Below 256 (b .area) → Below 256 (b′ .state) → Below 256 (b′ .area)
+    → (a a′ : ℕ) → Placed image base entryList a → Placed image base entryList a′
     → (db k : ℕ) → 1 ≤ k
     -- just the places and records counted
     → (places records : List ℕ) → places ≡ take (16 * placeCount) table → records ≡ take (12 * recordCount) list
-    → Holds (BytesGoBy (recordsIn records)) (Placed image base entryList) (inImage base (length image)) k (startOf p b) (startOf q c)
-    (oldCalls image base db) (oldStarted p b)
-    (newCalls records places base (length image) db) (newStarted places base (length image) q c)
+    → Holds (Placed image base entryList) (inImage base (length image)) k (startOf a b) (startOf a′ b′)
+    (oldCalls image base db) (oldStarted a b)
+    (newCalls records places base (length image) db) (newStarted places base (length image) a′ b′)

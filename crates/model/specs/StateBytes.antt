@@ -1,9 +1,11 @@
 -- States as bytes, numbers big-endian: how a loader in C holds them.
 use Prim.Native.Nat.{ℕ, _%_}
 use mathlib.Core.List.{List, [], _∷_, _++_}
-use Rattle.numbers.specs.Number.{numberAt, numbersOf, bytesOf}
+use mathlib.Core.Path.{_≡_}
+use Rattle.numbers.specs.Number.{Below, numberAt, numbersOf, bytesOf}
 use Rattle.words.specs.Conditions.{bitOf}
 use Rattle.machine.specs.Ends.{Ending, ending, endingFrom, State, state}
+use Rattle.machine.specs.Registers.{registerOf}
 use Rattle.machine.specs.Effect.{Machine, machine}
 use Rattle.model.specs.OldCore.{Old, old, oldNext, oldBegun}
 use Rattle.model.specs.NewCore.{New, new, newNext, newBegun}
@@ -62,3 +64,20 @@ newBegins places base size a bytes = newAfter (newBegun places base size a (mach
 unfoldable pub newRuns : List ℕ → List ℕ → ℕ → ℕ → ℕ → ℕ → List ℕ → List ℕ → After
 newRuns records places base size db count bytes area =
     newAfter (run (newNext records places base size db) count (newIn bytes (dataOf area))) (beyond area)
+
+-- 01, The old core: "Register 0 reads and shows as 0.", of both cores: whatever the bytes, it is 0 in every state that a run comes to
+abbrev pub oldMachine : Old → Machine
+oldMachine (old m pc npc annul) = m
+
+abbrev pub newMachine : New → Machine
+newMachine (new m r h) = m
+
+abbrev pub ReadsZero : {S : Type 0} → (S → Machine) → State S → Type 0
+ReadsZero machineOf (state s e) = registerOf (machineOf s .registers) 0 ≡ 0
+
+unfoldable pub RegisterZero : Type 0
+RegisterZero =
+    (bytes area : List ℕ) → Below 256 bytes → Below 256 area → (count : ℕ)
+    → ((image : List ℕ) (base db : ℕ) → ReadsZero oldMachine (run (oldNext image base db) count (oldIn bytes (dataOf area))))
+    × ((records places : List ℕ) (base size db : ℕ) → Below 256 records → Below 256 places
+    → ReadsZero newMachine (run (newNext records places base size db) count (newIn bytes (dataOf area))))

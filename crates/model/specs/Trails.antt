@@ -1,8 +1,14 @@
 -- 01, Records of the new core: trails, of any core. "A trail is made of its core's steps alone. Each step gets the state and data that
 -- the last one left, and nobody else writes them meanwhile".
+--
+-- An example, P2: ba 16 at 0, ba 24 at 4, add 1 to register 1 at 16, ta 0 at 24. The old core passes the words at 0, 4, 16 and 24, the new
+-- core does records 0, 1, 2 and 3, 4: the word at 16 is a group of two, so two of its steps lead to the last entry. Cut at 4 or more:
+--   old: at 0 0 m (at 1 4 m (at 1 16 m (at 1 24 m′ (shut (ending 1 0)))))
+--   new: at 0 0 m (at 1 4 m (at 1 16 m (at 2 24 m′ (shut (ending 1 0)))))
+-- where m′ has 1 more in register 1. Entries (0, 4, 16, 24 with what they show) and close are the same, the steps between are not.
+-- Cut at 3, both are at 0 0 m (at 1 4 m (at 1 16 m cut)), and close with 0.
 use Prim.Native.Nat.{ℕ, zero, suc, _+_, _≤_}
 use mathlib.Core.Path.{_≡_}
-use mathlib.Core.Bool.{Bool, true, false}
 use mathlib.Core.List.{List, [], _∷_}
 use mathlib.Core.Option.{Option, none, some}
 use Rattle.machine.specs.Ends.{Ending, ending, Next, State, state, live}
@@ -10,12 +16,13 @@ use Rattle.machine.specs.Effect.{Machine}
 use Rattle.model.specs.Run.{step, run}
 
 -- next: what a step does. mark: the address of the entry that stands before the step, if one does. shown: the registers, flags and
--- data of that entry. fell: whether an end met here is that of a landing without a place, whose entry the trail gains.
+-- data of that entry. byHeld: the held address that the step goes by, if it does. An end met by such a step is that of a landing without a
+-- place, whose entry the trail gains; the step itself only ends, and shows nothing of where it would have gone.
 pub record Core (S : Type 0) : Type 0 where
   pub next : S → Next S
   pub mark : S → Option ℕ
   pub shown : S → Machine
-  pub fell : S → Bool
+  pub byHeld : S → Option ℕ
 
 -- at: the steps since the entry before, "the address about to be executed, all registers, flags and data bytes", and what follows.
 -- shut: "how the run ended, with its number, closes the trail". cut: entry k + 1 would come here. spent: the given count of steps is done.
@@ -29,9 +36,9 @@ abbrev pub landing : ℕ → ℕ → ℕ → Machine → Ending → Trail
 landing zero gap a m e = cut
 landing (suc k) gap a m e = at gap a m (shut e)
 
-abbrev pub closes : Bool → ℕ → ℕ → Machine → Ending → Trail
-closes true k gap m (ending n a) = landing k gap a m (ending n a)
-closes false k gap m e = shut e
+abbrev pub closes : Option ℕ → ℕ → ℕ → Machine → Ending → Trail
+closes (some h) k gap m e = landing k gap h m e
+closes none k gap m e = shut e
 
 module _ {S : Type 0} where
   -- the state before a step: an entry, if one stands there, and then the trail of the state that the step leaves
@@ -43,18 +50,13 @@ module _ {S : Type 0} where
   -- the trail of a state that is going, or how it closes
   abbrev pub look : Core S → (S → Trail) → ℕ → ℕ → State S → Trail
   look c going k gap (state s (ending zero v)) = going s
-  look c going k gap (state s (ending (suc n) v)) = closes (c .fell s) k gap (c .shown s) (ending (suc n) v)
+  look c going k gap (state s (ending (suc n) v)) = closes (c .byHeld s) k gap (c .shown s) (ending (suc n) v)
 
   -- the trail that a state's steps make, cut at k entries, of a run of the given count; `gap` steps were done since the last entry
   abbrev pub trail : Core S → ℕ → ℕ → ℕ → State S → Trail
   trail c zero k gap x = look c (λ s. spent) k gap x
   trail c (suc count) k gap x =
       look c (λ s. turn (trail c count) k gap (c .mark s) (c .shown s) (step (c .next) (live s))) k gap x
-
-  -- the trail of a run just begun; "with none, as kind 6 would": one that ended as it was begun has the one entry at its address
-  abbrev pub trailFrom : Core S → ℕ → ℕ → State S → Trail
-  trailFrom c count k (state s (ending zero v)) = trail c count k 0 (state s (ending zero v))
-  trailFrom c count k (state s (ending (suc n) v)) = closes true k 0 (c .shown s) (ending (suc n) v)
 
 -- an entry: "the address about to be executed, all registers, flags and data bytes"
 pub data Entry : Type 0 where
@@ -86,18 +88,20 @@ abbrev pub lastAt : List Entry → ℕ → ℕ
 lastAt [] a = a
 lastAt (entry b m ∷ es) a = lastAt es b
 
--- "From each entry to the next": the steps that lead to each entry after the first
+-- the steps that lead to each entry: to the first from the start, to each other one from the entry before
 abbrev pub later : Trail → List ℕ
 later cut = []
 later spent = []
 later (shut e) = []
 later (at gap a m t) = gap ∷ later t
 
+abbrev pub afterFirst : List ℕ → List ℕ
+afterFirst [] = []
+afterFirst (n ∷ ns) = ns
+
+-- "From each entry to the next": the steps that lead to each entry after the first
 abbrev pub gaps : Trail → List ℕ
-gaps cut = []
-gaps spent = []
-gaps (shut e) = []
-gaps (at gap a m t) = later t
+gaps t = afterFirst (later t)
 
 -- "one or two"
 abbrev pub OneOrTwo : List ℕ → Type 0
@@ -129,11 +133,12 @@ module _ {S : Type 0} where
   -- the entry a, m stands before the state's step, or is a landing's
   abbrev pub StandsAt : Core S → State S → ℕ → Machine → Type 0
   StandsAt c (state s (ending zero v)) a m = (c .mark s ≡ some a) × (c .shown s ≡ m)
-  StandsAt c (state s (ending (suc n) v)) a m = (c .fell s ≡ true) × (v ≡ a) × (c .shown s ≡ m)
+  StandsAt c (state s (ending (suc n) v)) a m = (c .byHeld s ≡ some a) × (c .shown s ≡ m)
 
-  -- from the state at one entry (first: the start), as many steps as the trail says lead to the state at the next
-  abbrev pub Traced : Core S → State S → Trail → Type 0
-  Traced c x cut = Unit {0}
-  Traced c x spent = Unit {0}
-  Traced c x (shut e) = Unit {0}
-  Traced c x (at gap a m t) = StandsAt c (run (c .next) gap x) a m × Traced c (run (c .next) gap x) t
+  -- from the state at one entry (first: the start), as many steps as the first list says lead to the state at the next: what is shown of a
+  -- trail, its entries and the steps that lead to them, is of its core's own run
+  abbrev pub Traced : Core S → State S → List ℕ → List Entry → Type 0
+  Traced c x [] [] = Unit {0}
+  Traced c x [] (e ∷ es) = ⊥
+  Traced c x (gap ∷ gs) [] = ⊥
+  Traced c x (gap ∷ gs) (entry a m ∷ es) = StandsAt c (run (c .next) gap x) a m × Traced c (run (c .next) gap x) gs es

@@ -111,7 +111,8 @@ pub record Freely (image : List ℕ) (base : ℕ) (entries : List ℕ) (holds : 
   pub all : holds position
 
 -- "What a contract says, for every input, of the answer and of each buffer: an equation where these rules settle it, else the free part by
--- name and all that holds of it."
+-- name and all that holds of it." Who reads this first: start at `translation`, which says what is handed back; here its free position is
+-- named, and the answer becomes three numbers.
 abbrev pub HandsBack : List ℕ → ℕ → List ℕ → ℕ → ℕ → List ℕ → List ℕ → List ℕ → Type 0
 HandsBack image base entries placesLength recordsLength numbers places records =
     Freely image base entries

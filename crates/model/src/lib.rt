@@ -1,10 +1,20 @@
 // The states of the cores. specs/ has document 01 as definitions, in 01's order.
 ghost use mathlib.Core.Path.{_≡_};
+ghost use Rattle.model.specs.OldCore.{target};
 ghost use Rattle.model.specs.OldState.{startValues};
 ghost use Rattle.model.specs.NewState.{newStartValues};
 use machine::End;
 use machine::Flags;
 use machine::SourcePc;
+use machine::TargetPc;
+use machine::further;
+
+// Where a displacement, which counts words, leads from an address.
+pub fn target(p: SourcePc, disp: u32) -> SourcePc
+    ensures { λ r. ⌜ r .0 ≡ target (p .0) disp ⌝ }
+{
+    further(p, disp << 2)
+}
 
 // The old core's state but for its registers, which are lent beside it.
 pub struct OldControl {
@@ -42,9 +52,6 @@ impl OldCore {
     }
 }
 
-// A record's number. It is never read as a source address.
-pub struct TargetPc(pub u32);
-
 // The new core's state but for its registers, which are lent beside it: the record at hand, and the held address.
 pub struct NewControl {
     pub flags: Flags,
@@ -79,7 +86,8 @@ impl NewCore {
 }
 
 // What the old core is about to do, at an address: with a known next address, which is 4 further for a plain place and any other for a
-// slot; or held, with a next address that is known only when it is run.
+// slot; or held, with a next address that is known only when it is run. No code makes one: the definitions and contracts speak of places, and
+// the translator has them as three numbers, a row's address, next and kind.
 pub enum Place {
     Pair(u32, u32),
     Held(u32),

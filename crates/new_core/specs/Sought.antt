@@ -5,5 +5,5 @@ use Rattle.new_core.specs.declared.Sought.{Sought}
 use Rattle.new_core.specs.declared.Sought.the-variants.{Record, Nothing}
 
 unfoldable pub soughtOf : Sought → Option ℕ
-soughtOf (Record f) = some f
+soughtOf (Record r) = some (r .0)
 soughtOf Nothing = none

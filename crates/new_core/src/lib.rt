@@ -5,10 +5,11 @@ ghost use mathlib.Core.List.{List};
 ghost use mathlib.Core.Option.{some};
 ghost use lib.ListN.{length};
 ghost use Rattle.numbers.specs.Choice.{pick};
+ghost use Rattle.numbers.specs.Number.{plus};
 ghost use Rattle.machine.specs.Ends.{ending, endingOf, go, halt, isGoing, live, left, settle, within};
 ghost use Rattle.machine.specs.Registers.{putRegister};
 ghost use Rattle.machine.specs.Effect.{machine, effectOf};
-ghost use Rattle.model.specs.Run.{step, run, zeroed, dataOf, beyond, lent};
+ghost use Rattle.model.specs.Run.{run, zeroed, dataOf, beyond, lent};
 ghost use Rattle.model.specs.OldCore.{transferOf, inImage};
 ghost use Rattle.model.specs.Places.{whichOf, idleBicc};
 ghost use Rattle.model.specs.Records.{rowsIn, recordAt};
@@ -18,23 +19,30 @@ ghost use Rattle.new_core.specs.Sought.{soughtOf};
 use machine::End;
 use machine::Flags;
 use machine::SourcePc;
+use machine::TargetPc;
 use machine::effect::Effect;
 use machine::effect::perform;
 use machine::registers::address;
 use machine::registers::put;
 use model::NewControl;
 use model::NewCore;
-use model::TargetPc;
 use words::Instruction;
 
+// The next record.
+fn next_record(k: TargetPc) -> TargetPc
+    ensures { λ r. ⌜ r .0 ≡ plus (k .0) 1 ⌝ }
+{
+    TargetPc(numbers::add(k.0, 1))
+}
+
 // The run goes on at a record.
-fn go_to(c: NewControl, f: Flags, to: u32) -> NewControl
-    ensures { λ r. ⌜ ((rs a : List ℕ) → newState rs r a ≡ live (new (machine rs (f .nzvc) a) to (c .held .0))) ⌝ }
+fn go_to(c: NewControl, f: Flags, to: TargetPc) -> NewControl
+    ensures { λ r. ⌜ ((rs a : List ℕ) → newState rs r a ≡ live (new (machine rs (f .nzvc) a) (to .0) (c .held .0))) ⌝ }
 {
     let h = c.held;
     NewControl {
         flags: f,
-        at: TargetPc(to),
+        at: to,
         held: h,
         end: End::Going,
     }
@@ -45,7 +53,7 @@ fn follow(c: NewControl, f: Flags) -> NewControl
     ensures { λ r. ⌜ ((rs a : List ℕ) → newState rs r a ≡ live (following (c .at .0) (c .held .0) (machine rs (f .nzvc) a))) ⌝ }
 {
     let k = c.at;
-    go_to(c, f, numbers::add(k.0, 1))
+    go_to(c, f, next_record(k))
 }
 
 // The run ends, and nothing else changes.
@@ -68,7 +76,7 @@ fn bad(c: NewControl) -> NewControl
     ensures { λ r. ⌜ ((rs a : List ℕ) → newState rs r a ≡ settle (newOf rs c a) (halt (ending 7 (c .at .0)))) ⌝ }
 {
     let k = c.at;
-    stop(c, End::BadRecord(k.0))
+    stop(c, End::BadRecord(k))
 }
 
 // After a word that does not transfer control: the next record, or the end.
@@ -118,17 +126,17 @@ fn do_word(
 }
 
 // Kind 2: register 15 := first.
-fn link(first: u32, regs: &mut [u32; 32], c: NewControl) -> NewControl
-    ensures { λ r. ⌜ ((a : List ℕ) → newState (now (regs .exit)) r a ≡ live (following (c .at .0) (c .held .0) (machine (putRegister (now (regs .entry)) 15 first) (c .flags .nzvc) a))) ⌝ }
+fn link(first: SourcePc, regs: &mut [u32; 32], c: NewControl) -> NewControl
+    ensures { λ r. ⌜ ((a : List ℕ) → newState (now (regs .exit)) r a ≡ live (following (c .at .0) (c .held .0) (machine (putRegister (now (regs .entry)) 15 (first .0)) (c .flags .nzvc) a))) ⌝ }
 {
     let f = c.flags;
-    put(regs, 15, first);
+    put(regs, 15, first.0);
     follow(c, f)
 }
 
 // Kind 3: hold where the jmpl leads. The address is taken from the registers before rd is written.
-fn hold(i: Instruction, source: u32, regs: &mut [u32; 32], c: NewControl) -> NewControl
-    ensures { λ r. ⌜ ((a : List ℕ) → newState (now (regs .exit)) r a ≡ settle (newOf (now (regs .entry)) c a) (holds (transferOf i) source (machine (now (regs .entry)) (c .flags .nzvc) a) (c .at .0))) ⌝ }
+fn hold(i: Instruction, source: SourcePc, regs: &mut [u32; 32], c: NewControl) -> NewControl
+    ensures { λ r. ⌜ ((a : List ℕ) → newState (now (regs .exit)) r a ≡ settle (newOf (now (regs .entry)) c a) (holds (transferOf i) (source .0) (machine (now (regs .entry)) (c .flags .nzvc) a) (c .at .0))) ⌝ }
 {
     let f = c.flags;
     let k = c.at;
@@ -136,11 +144,11 @@ fn hold(i: Instruction, source: u32, regs: &mut [u32; 32], c: NewControl) -> New
         Instruction::Jmpl(rd, rs1, x) => {
             let t = address(regs, rs1, x);
             if t % 4 == 0 {
-                put(regs, rd, source);
-                let n = numbers::add(k.0, 1);
+                put(regs, rd, source.0);
+                let n = next_record(k);
                 return NewControl {
                     flags: f,
-                    at: TargetPc(n),
+                    at: n,
                     held: SourcePc(t),
                     end: End::Going,
                 };
@@ -152,8 +160,8 @@ fn hold(i: Instruction, source: u32, regs: &mut [u32; 32], c: NewControl) -> New
 }
 
 // Kind 4: go to a record if a condition holds.
-fn choose(cond: u32, to: u32, c: NewControl) -> NewControl
-    ensures { λ r. ⌜ ((rs a : List ℕ) → newState rs r a ≡ settle (newOf rs c a) (chooses cond to (machine rs (c .flags .nzvc) a) (c .at .0) (c .held .0))) ⌝ }
+fn choose(cond: u32, to: TargetPc, c: NewControl) -> NewControl
+    ensures { λ r. ⌜ ((rs a : List ℕ) → newState rs r a ≡ settle (newOf rs c a) (chooses cond (to .0) (machine rs (c .flags .nzvc) a) (c .at .0) (c .held .0))) ⌝ }
 {
     let f = c.flags;
     if cond <= 15 {
@@ -167,21 +175,21 @@ fn choose(cond: u32, to: u32, c: NewControl) -> NewControl
 
 // What is found of an address: the first record of its lowest-numbered plain place.
 pub enum Sought {
-    Record(u32),
+    Record(TargetPc),
     Nothing,
 }
 
 // Searches the place table to its end.
-fn search(places: &[u8], a: u32) -> Sought
-    ensures { λ r. ⌜ soughtOf r ≡ seek (rowsIn (now (places .entry))) a ⌝ }
+fn search(places: &[u8], a: SourcePc) -> Sought
+    ensures { λ r. ⌜ soughtOf r ≡ seek (rowsIn (now (places .entry))) (a .0) ⌝ }
 {
     let n = places.len() / 16;
     let mut i: usize = 0;
     while i < n {
         let at = 16 * i;
-        if numbers::read_number(places, at) == a {
+        if numbers::read_number(places, at) == a.0 {
             if numbers::read_number(places, at + 8) == 0 {
-                return Sought::Record(numbers::read_number(places, at + 12));
+                return Sought::Record(TargetPc(numbers::read_number(places, at + 12)));
             }
         }
         i += 1;
@@ -190,15 +198,15 @@ fn search(places: &[u8], a: u32) -> Sought
 }
 
 // Whether an address lies in the image.
-fn in_image(base: u32, size: u32, a: u32) -> bool
-    ensures { λ r. ⌜ r ≡ inImage base size a ⌝ }
+fn in_image(base: u32, size: u32, a: SourcePc) -> bool
+    ensures { λ r. ⌜ r ≡ inImage base size (a .0) ⌝ }
 {
-    numbers::subtract(a, base) as u64 + 4 <= size as u64
+    numbers::subtract(a.0, base) as u64 + 4 <= size as u64
 }
 
 // How a run ends at an address that has no plain place.
-fn lost_at(base: u32, size: u32, a: u32) -> End
-    ensures { λ r. ⌜ endingOf r ≡ lost (inImage base size a) a ⌝ }
+fn lost_at(base: u32, size: u32, a: SourcePc) -> End
+    ensures { λ r. ⌜ endingOf r ≡ lost (inImage base size (a .0)) (a .0) ⌝ }
 {
     if in_image(base, size, a) {
         return End::NoPlace(a);
@@ -212,16 +220,16 @@ fn go_held(places: &[u8], base: u32, size: u32, c: NewControl) -> NewControl
 {
     let f = c.flags;
     let h = c.held;
-    let s = search(places, h.0);
+    let s = search(places, h);
     match s {
         Sought::Record(to) => go_to(c, f, to),
-        Sought::Nothing => stop(c, lost_at(base, size, h.0)),
+        Sought::Nothing => stop(c, lost_at(base, size, h)),
     }
 }
 
 // Kind 7: end as first says, at address second.
-fn stop_as(first: u32, second: u32, c: NewControl) -> NewControl
-    ensures { λ r. ⌜ ((rs a : List ℕ) → newState rs r a ≡ settle (newOf rs c a) (stops first second (c .at .0))) ⌝ }
+fn stop_as(first: u32, second: SourcePc, c: NewControl) -> NewControl
+    ensures { λ r. ⌜ ((rs a : List ℕ) → newState rs r a ≡ settle (newOf rs c a) (stops first (second .0) (c .at .0))) ⌝ }
 {
     match first {
         2 => stop(c, End::Outside(second)),
@@ -230,7 +238,8 @@ fn stop_as(first: u32, second: u32, c: NewControl) -> NewControl
     }
 }
 
-// Does the record that starts at a position. Of its numbers only those are read that its kind names.
+// Does the record that starts at a position. Of its numbers only those are read that its kind names, and as the kind says they become
+// addresses or record numbers here.
 fn obey(
     records: &[u8],
     at: usize,
@@ -250,17 +259,17 @@ fn obey(
     let first = numbers::read_number(records, at + 4);
     match kind {
         1 => do_word(words::read_instruction(first), db, regs, c, area),
-        2 => link(first, regs, c),
+        2 => link(SourcePc(first), regs, c),
         3 => hold(
             words::read_jmpl(first),
-            numbers::read_number(records, at + 8),
+            SourcePc(numbers::read_number(records, at + 8)),
             regs,
             c,
         ),
-        4 => choose(first, numbers::read_number(records, at + 8), c),
-        5 => go_to(c, f, first),
+        4 => choose(first, TargetPc(numbers::read_number(records, at + 8)), c),
+        5 => go_to(c, f, TargetPc(first)),
         6 => go_held(places, base, size, c),
-        7 => stop_as(first, numbers::read_number(records, at + 8), c),
+        7 => stop_as(first, SourcePc(numbers::read_number(records, at + 8)), c),
         _ => bad(c),
     }
 }
@@ -314,20 +323,20 @@ fn steps(
 }
 
 // At a record, with nothing held.
-fn begun(f: Flags, to: u32, e: End) -> NewControl
-    ensures { λ r. ⌜ ((rs a : List ℕ) → newState rs r a ≡ left (new (machine rs (f .nzvc) a) to 0) e) ⌝ }
+fn begun(f: Flags, to: TargetPc, e: End) -> NewControl
+    ensures { λ r. ⌜ ((rs a : List ℕ) → newState rs r a ≡ left (new (machine rs (f .nzvc) a) (to .0) 0) e) ⌝ }
 {
     NewControl {
         flags: f,
-        at: TargetPc(to),
+        at: to,
         held: SourcePc(0),
         end: e,
     }
 }
 
 // At the first record of the address's lowest-numbered plain place, or ended where there is none; registers and flags stay.
-pub fn begin(places: &[u8], base: u32, size: u32, core: NewCore, a: u32) -> NewCore
-    ensures { λ r. ⌜ ((area : List ℕ) → newState (r .registers) (r .control) area ≡ newBegun (now (places .entry)) base size a (machine (zeroed (core .registers)) (core .control .flags .nzvc) area)) ⌝ }
+pub fn begin(places: &[u8], base: u32, size: u32, core: NewCore, a: SourcePc) -> NewCore
+    ensures { λ r. ⌜ ((area : List ℕ) → newState (r .registers) (r .control) area ≡ newBegun (now (places .entry)) base size (a .0) (machine (zeroed (core .registers)) (core .control .flags .nzvc) area)) ⌝ }
 {
     let k = core.control;
     let f = k.flags;
@@ -336,7 +345,7 @@ pub fn begin(places: &[u8], base: u32, size: u32, core: NewCore, a: u32) -> NewC
     let s = search(places, a);
     let c = match s {
         Sought::Record(to) => begun(f, to, End::Going),
-        Sought::Nothing => begun(f, 0, lost_at(base, size, a)),
+        Sought::Nothing => begun(f, TargetPc(0), lost_at(base, size, a)),
     };
     NewCore {
         registers: regs,
@@ -376,19 +385,4 @@ pub fn run(
         registers: regs,
         control: k,
     }
-}
-
-// One step.
-pub fn step(
-    records: &[u8],
-    places: &[u8],
-    base: u32,
-    size: u32,
-    db: u32,
-    core: NewCore,
-    area: &mut [u8],
-) -> NewCore
-    ensures { λ r. ⌜ lent (newState (r .registers) (r .control) (dataOf (now (area .exit)))) (beyond (now (area .exit))) ≡ lent (step (newNext (now (records .entry)) (now (places .entry)) base size db) (newState (zeroed (core .registers)) (core .control) (dataOf (now (area .entry))))) (beyond (now (area .entry))) ⌝ }
-{
-    run(records, places, base, size, db, core, area, 1)
 }

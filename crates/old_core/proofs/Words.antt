@@ -1,25 +1,21 @@
 -- Laws of a step: the words that do not transfer control, and the test of annul.
-use Rattle.model.specs.Places.{always}
-use Rattle.model.specs.NewCore.{holds}
 use lib.Dec.{eqb}
 use borrow.Author.Tests.{ne-eqb}
 use Rattle.numbers.specs.Number.{plus}
-use native.Mathlib.Nat.{add-mod-mod}
-use native.Mathlib.Omega.{arith}
 use Rattle.numbers.specs.Choice.{pick}
 use Rattle.words.specs.declared.Instruction.the-variants.{Illegal, Call, Sethi, Bicc, Arithmetic, Jmpl, Ticc, Load, Store}
 use Rattle.words.specs.declared.Instruction.{Instruction}
 use Rattle.words.specs.Conditions.{bitOf}
 use Rattle.machine.specs.Ends.{within, live, settle, ending, halt}
 use Rattle.machine.specs.Effect.{effectOf, Machine}
-use Rattle.model.specs.OldCore.{transferOf, follows, executes, old, target, branches, wordIn, fetches, oldNext, straight, trap}
+use Rattle.model.specs.OldCore.{transferOf, follows, executes, old, branches, wordIn, fetches, oldNext, straight, trap}
 use Rattle.model.specs.OldState.{isSet}
 use denote.Enum.Declared.{tagOf}
 use types.Run.{OneOf, miss}
 use mathlib.Core.List.{List, [], _∷_}
 use mathlib.Core.Bool.{Bool, true, false, _&&_}
-use mathlib.Core.Path.{_≡_, refl, _∙_}
-use Prim.Native.Nat.{ℕ, _*_, _%_, _^_}
+use mathlib.Core.Path.{_≡_, refl}
+use Prim.Native.Nat.{ℕ, _%_}
 use Rattle.words.proofs.Instruction.{the-type as instruction}
 
 -- the numbers are those of the variants, in the order of the enum
@@ -78,11 +74,6 @@ module _ (m : Machine) (npc t : ℕ) (annul holds always : Bool) where
   pub branch-fails : (k n : ℕ) → holds ≡ false → k ≡ bitOf annul → n ≡ plus npc 4 → live (old m npc n (isSet k)) ≡ live (branches holds always annul m npc t)
   unfolding branches
   branch-fails k n h b e = rw (h, b, set-bit annul, e)
-
--- a displacement in words, shifted, is four times itself
-pub in-words : (p disp : ℕ) → plus p (disp * 4 % 2 ^ 32) ≡ target p disp
-unfolding plus target
-in-words p disp = add-mod-mod p (disp * 4) (2 ^ 32) ∙ omega arith
 
 -- by annul: the word is passed unread, or it is fetched
 module _ (image : List ℕ) (base db : ℕ) (m : Machine) (pc npc : ℕ) (annul : Bool) where

@@ -8,7 +8,7 @@ ghost use Rattle.words.specs.Conditions.{holdsOf};
 ghost use Rattle.machine.specs.Ends.{ending, halt, isGoing, live, left, settle};
 ghost use Rattle.machine.specs.Registers.{addressOf};
 ghost use Rattle.machine.specs.Effect.{machine};
-ghost use Rattle.model.specs.Run.{step, run, zeroed, dataOf, beyond, lent};
+ghost use Rattle.model.specs.Run.{run, zeroed, dataOf, beyond, lent};
 ghost use Rattle.model.specs.OldCore.{old, wordIn, transferOf, target, follows, branches, jumps, executes, fetches, oldNext, oldBegun};
 ghost use Rattle.model.specs.OldState.{isSet, oldOf, oldState};
 use machine::End;
@@ -17,22 +17,24 @@ use machine::SourcePc;
 use machine::effect::Effect;
 use machine::effect::holds;
 use machine::effect::perform;
+use machine::further;
 use machine::registers::address;
 use machine::registers::put;
 use model::OldControl;
 use model::OldCore;
+use model::target;
 use words::Instruction;
 use words::Operand;
 
 // The run goes on: PC becomes nPC, and nPC the address given.
-fn advance(c: OldControl, f: Flags, next: u32, annul: u32) -> OldControl
-    ensures { λ r. ⌜ ((rs a : List ℕ) → oldState rs r a ≡ live (old (machine rs (f .nzvc) a) (c .npc .0) next (isSet annul))) ⌝ }
+fn advance(c: OldControl, f: Flags, next: SourcePc, annul: u32) -> OldControl
+    ensures { λ r. ⌜ ((rs a : List ℕ) → oldState rs r a ≡ live (old (machine rs (f .nzvc) a) (c .npc .0) (next .0) (isSet annul))) ⌝ }
 {
     let p = c.npc;
     OldControl {
         flags: f,
         pc: p,
-        npc: SourcePc(next),
+        npc: next,
         annul,
         end: End::Going,
     }
@@ -43,7 +45,7 @@ fn follow(c: OldControl, f: Flags) -> OldControl
     ensures { λ r. ⌜ ((rs a : List ℕ) → oldState rs r a ≡ live (follows (c .npc .0) (machine rs (f .nzvc) a))) ⌝ }
 {
     let n = c.npc;
-    advance(c, f, numbers::add(n.0, 4), 0)
+    advance(c, f, further(n, 4), 0)
 }
 
 // The run ends, and nothing else changes.
@@ -62,13 +64,6 @@ fn stop(c: OldControl, e: End) -> OldControl
     }
 }
 
-// Where a displacement, which counts words, leads from an address.
-fn target(p: u32, disp: u32) -> u32
-    ensures { λ r. ⌜ r ≡ target p disp ⌝ }
-{
-    numbers::add(p, disp << 2)
-}
-
 fn branch(c: OldControl, cond: u32, annul: bool, disp: u32) -> OldControl
     ensures { λ r. ⌜ ((rs a : List ℕ) → oldState rs r a ≡ live (branches (holdsOf cond (c .flags .nzvc)) (eqb cond 8) annul (machine rs (c .flags .nzvc) a) (c .npc .0) (target (c .pc .0) disp))) ⌝ }
 {
@@ -76,13 +71,13 @@ fn branch(c: OldControl, cond: u32, annul: bool, disp: u32) -> OldControl
     let p = c.pc;
     let n = c.npc;
     if holds(f, cond) {
-        let t = target(p.0, disp);
+        let t = target(p, disp);
         if cond == 8 {
             return advance(c, f, t, machine::bit(annul));
         }
         return advance(c, f, t, 0);
     }
-    advance(c, f, numbers::add(n.0, 4), machine::bit(annul))
+    advance(c, f, further(n, 4), machine::bit(annul))
 }
 
 // The address is taken from the registers before rd is written.
@@ -94,7 +89,7 @@ fn jump(c: OldControl, regs: &mut [u32; 32], rd: u32, rs1: u32, x: Operand) -> O
     let t = address(regs, rs1, x);
     if t % 4 == 0 {
         put(regs, rd, p.0);
-        return advance(c, f, t, 0);
+        return advance(c, f, SourcePc(t), 0);
     }
     stop(c, End::Misaligned(t))
 }
@@ -121,12 +116,11 @@ fn execute(
     ensures { λ r. ⌜ oldState (now (regs .exit)) r (now (area .exit)) ≡ settle (oldOf (now (regs .entry)) c (now (area .entry))) (executes db (transferOf i) i (machine (now (regs .entry)) (c .flags .nzvc) (now (area .entry))) (c .pc .0) (c .npc .0)) ⌝ }
 {
     let f = c.flags;
-    let q = c.pc;
-    let p = q.0;
+    let p = c.pc;
     match i {
         Instruction::Illegal => stop(c, End::IllegalWord(p)),
         Instruction::Call(disp) => {
-            put(regs, 15, p);
+            put(regs, 15, p.0);
             advance(c, f, target(p, disp), 0)
         }
         Instruction::Bicc(cond, annul, disp) => branch(c, cond, annul, disp),
@@ -146,17 +140,16 @@ fn fetch(
 ) -> OldControl
     ensures { λ r. ⌜ oldState (now (regs .exit)) r (now (area .exit)) ≡ settle (oldOf (now (regs .entry)) c (now (area .entry))) (pick (eqb (c .pc .0 % 4) 0) (fetches db (wordIn (now (image .entry)) base (c .pc .0)) (machine (now (regs .entry)) (c .flags .nzvc) (now (area .entry))) (c .pc .0) (c .npc .0)) (halt (ending 4 (c .pc .0)))) ⌝ }
 {
-    let q = c.pc;
-    let p = q.0;
-    if p % 4 == 0 {
-        let at = numbers::subtract(p, base) as usize;
+    let p = c.pc;
+    if p.0 % 4 == 0 {
+        let at = numbers::subtract(p.0, base) as usize;
         if at + 4 <= image.len() {
             let i = words::read_instruction(numbers::read_number(image, at));
             return execute(i, db, regs, c, area);
         }
         return stop(c, End::Outside(p));
     }
-    stop(c, End::Misaligned(p))
+    stop(c, End::Misaligned(p.0))
 }
 
 // An annulled word is passed unread.
@@ -203,18 +196,18 @@ fn steps(
 }
 
 // PC at the address, nPC 4 further, annul clear, not ended; registers and flags stay.
-pub fn begin(core: OldCore, pc: u32) -> OldCore
-    ensures { λ r. ⌜ ((a : List ℕ) → oldState (r .registers) (r .control) a ≡ oldBegun pc (machine (zeroed (core .registers)) (core .control .flags .nzvc) a)) ⌝ }
+pub fn begin(core: OldCore, pc: SourcePc) -> OldCore
+    ensures { λ r. ⌜ ((a : List ℕ) → oldState (r .registers) (r .control) a ≡ oldBegun (pc .0) (machine (zeroed (core .registers)) (core .control .flags .nzvc) a)) ⌝ }
 {
     let k = core.control;
     let f = k.flags;
     let mut regs = core.registers;
     regs[0] = 0;
-    let npc = numbers::add(pc, 4);
+    let npc = further(pc, 4);
     let c = OldControl {
         flags: f,
-        pc: SourcePc(pc),
-        npc: SourcePc(npc),
+        pc,
+        npc,
         annul: 0,
         end: End::Going,
     };
@@ -237,11 +230,4 @@ pub fn run(image: &[u8], base: u32, db: u32, core: OldCore, area: &mut [u8], cou
         registers: regs,
         control: k,
     }
-}
-
-// One step.
-pub fn step(image: &[u8], base: u32, db: u32, core: OldCore, area: &mut [u8]) -> OldCore
-    ensures { λ r. ⌜ lent (oldState (r .registers) (r .control) (dataOf (now (area .exit)))) (beyond (now (area .exit))) ≡ lent (step (oldNext (now (image .entry)) base db) (oldState (zeroed (core .registers)) (core .control) (dataOf (now (area .entry))))) (beyond (now (area .entry))) ⌝ }
-{
-    run(image, base, db, core, area, 1)
 }

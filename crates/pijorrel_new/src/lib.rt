@@ -9,16 +9,15 @@ ghost use Rattle.model.specs.StateBytes.{newIn, newBytes, after, newBegins, new
 use machine::Ended;
 use machine::Flags;
 use machine::SourcePc;
+use machine::TargetPc;
 use model::NewControl;
 use model::NewCore;
-use model::TargetPc;
 
 // The state that 148 bytes stand for.
 fn decode(state: &[u8; 148]) -> NewCore
     ensures { λ r. ⌜ ((a : List ℕ) → newState (zeroed (r .registers)) (r .control) a ≡ newIn (now (state .entry)) a) ⌝ }
 {
-    let core = NewCore::new();
-    let mut regs = core.registers;
+    let mut regs = [0u32; 32];
     numbers::read_numbers(state, &mut regs);
     let nzvc = numbers::read_number(state, 128) % 16;
     let k = TargetPc(numbers::read_number(state, 132));
@@ -68,7 +67,7 @@ pub extern "C" fn pijorrel_new_begin(
 ) -> Ended
     ensures { λ r. ⌜ after (r .end) (r .number) (now (state .exit)) [] ≡ newBegins (now (places .entry)) base size a (now (state .entry)) ⌝ }
 {
-    let core = new_core::begin(places, base, size, decode(state), a);
+    let core = new_core::begin(places, base, size, decode(state), SourcePc(a));
     encode(core, state)
 }
 

@@ -16,8 +16,7 @@ use model::OldCore;
 fn decode(state: &[u8; 152]) -> OldCore
     ensures { λ r. ⌜ ((a : List ℕ) → oldState (zeroed (r .registers)) (r .control) a ≡ oldIn (now (state .entry)) a) ⌝ }
 {
-    let core = OldCore::new();
-    let mut regs = core.registers;
+    let mut regs = [0u32; 32];
     numbers::read_numbers(state, &mut regs);
     let nzvc = numbers::read_number(state, 128) % 16;
     let p = SourcePc(numbers::read_number(state, 132));
@@ -64,7 +63,7 @@ fn encode(core: OldCore, state: &mut [u8; 152]) -> Ended
 pub extern "C" fn pijorrel_old_begin(pc: u32, state: &mut [u8; 152])
     ensures { λ _. ⌜ now (state .exit) ≡ oldBegins pc (now (state .entry)) ⌝ }
 {
-    let core = old_core::begin(decode(state), pc);
+    let core = old_core::begin(decode(state), SourcePc(pc));
     let _r = encode(core, state);
 }
 

@@ -17,8 +17,8 @@ use mathlib.Core.Bool.{Bool, true, false, false≢true}
 use mathlib.Core.Path.{_≡_, refl, sym, ap, _∙_}
 use Prim.Native.Nat.{ℕ, zero, suc, _+_, _*_, _-_, _^_, _≤_, _<_}
 use Rattle.places.specs.Table.{placeOf, Shows, placeIn, ShowsIn, SameRow, placesIn, putPlace, numberOf}
-use Rattle.places.specs.Index.{hashOf, hash, last, Indexed}
-use Rattle.places.proofs.Rows.{at-place, differ, place-same, shows-same, place-put, shows-put, place-below, row-below, length-places}
+use Rattle.places.specs.Index.{hashOf, hash, last, Indexed, Ready}
+use Rattle.places.proofs.Rows.{at-place, differ, place-same, shows-same, place-put, shows-put, place-below, row-below, length-row, length-places}
 
 other-hash : (x y : Place) → (hash x ≡ hash y → ⊥) → samePlace x y ≡ false
 other-hash x y n = differ x y (λ e. n (ap hash e))
@@ -271,7 +271,7 @@ module _ (t : List ℕ) (n p q k : ℕ) (heads links : List ℕ) (old : Indexed 
   at-most : (i : ℕ) → i < n + 1 → (i ≡ n) ⊎ (i < n)
   at-most i l = eq-or-lt-of-le (le-of-suc-le-suc (rw add-one at l))
 
-  pub index-put : Indexed t+ (n + 1) (set heads (hashOf p q) (n + 1)) (set links n (getD heads (hashOf p q) 0))
+  index-put : Indexed t+ (n + 1) (set heads (hashOf p q) (n + 1)) (set links n (getD heads (hashOf p q) 0))
   unfolding last
   index-put =
       rw (hash-of p q k s)
@@ -283,3 +283,15 @@ module _ (t : List ℕ) (n p q k : ℕ) (heads links : List ℕ) (old : Indexed 
         shows = λ i l. shows-at i (at-most i l);
         apart = λ i j l m. apart-at i j l (at-most j m);
       }
+
+-- a table ready for more, with one place more
+pub ready-put : {room : ℕ} {t : List ℕ} {n : ℕ} (p q k : ℕ) (heads links : List ℕ) → Ready room t n heads links → n < room → p < 2 ^ 32 → q < 2 ^ 32
+    → k < 2 ^ 32 → Shows p q k → member (placesIn t n) (placeOf p q k) ≡ false
+    → Ready room (putPlace t n p q k) (n + 1) (set heads (hashOf p q) (n + 1)) (set links n (getD heads (hashOf p q) 0))
+ready-put {room} {t} {n} p q k heads links x m bp bq bk s new =
+    record {
+      within = omega arith;
+      fits = rw (length-row t n p q k) (x .fits);
+      few = x .few;
+      index = index-put t n p q k heads links (x .index) (omega arith) (omega arith) bp bq bk s new;
+    }

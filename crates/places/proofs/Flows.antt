@@ -4,16 +4,14 @@ use Rattle.numbers.specs.Number.{plus}
 use Rattle.numbers.specs.Choice.{pick}
 use Rattle.model.specs.declared.Place.the-variants.{Pair}
 use Rattle.model.specs.Places.{plain, whichOf, biccNames, idleBicc, Which, never, always, depends}
-use Rattle.model.specs.OldCore.{wordIn, transferOf, target, Transfer, straight, trap, jmpl}
+use Rattle.model.specs.OldCore.{wordIn, transferOf, Transfer, straight, trap, jmpl}
 use lib.Dec.{eqb}
 use borrow.Author.Tests.{ne-eqb}
 use mathlib.Core.List.{List, [], _∷_}
 use mathlib.Core.Option.{none, some}
-use native.Mathlib.Nat.{add-mod-mod}
-use native.Mathlib.Omega.{arith}
 use mathlib.Core.Bool.{Bool, true, false}
-use mathlib.Core.Path.{_≡_, refl, sym, _∙_}
-use Prim.Native.Nat.{ℕ, _*_, _%_, _^_}
+use mathlib.Core.Path.{_≡_, refl, sym}
+use Prim.Native.Nat.{ℕ}
 use Rattle.words.specs.declared.Operand.{Operand}
 use Rattle.words.specs.declared.Operand.the-variants.{Constant}
 use Rattle.words.specs.declared.Instruction.the-variants.{Illegal, Call, Sethi, Bicc, Arithmetic, Jmpl, Ticc, Load, Store}
@@ -23,11 +21,6 @@ use Rattle.words.specs.Flow.{flowOf}
 use Rattle.places.specs.declared.control.Fetched.{Fetched}
 use Rattle.places.specs.declared.control.Fetched.the-variants.{Word, Outside}
 use Rattle.places.specs.Control.{wordOf, transferred}
-
--- a displacement in words, shifted, is four times itself
-pub in-words : (p disp : ℕ) → plus p (disp * 4 % 2 ^ 32) ≡ target p disp
-unfolding plus target
-in-words p disp = add-mod-mod p (disp * 4) (2 ^ 32) ∙ omega arith
 
 -- what does not look at a jmpl's operands can be had from the flow alone
 pub by-flow : {A : Type 0} (f : Transfer → A) → ((rd rs1 : ℕ) (x : Operand) → f (jmpl rd rs1 x) ≡ f (jmpl rd 0 (Constant 0)))

@@ -20,6 +20,10 @@ use mathlib.Core.Path.{_≡_, refl, sym, ap, _∙_}
 use Prim.Native.Nat.{ℕ, zero, suc, _+_, _*_, _^_, _≤_, _<_}
 use Rattle.places.specs.Table.{placeOf, Shows, placeIn, ShowsIn, SameRow, placesIn, putPlace}
 
+pub length-row : (l : List ℕ) (i p n k : ℕ) → length (putPlace l i p n k) ≡ length l
+unfolding putPlace
+length-row l i p n k = simp length-put
+
 pub length-places : (l : List ℕ) (n : ℕ) → length (placesIn l n) ≡ n
 unfolding placesIn
 length-places l n = length-up (placeIn l) n

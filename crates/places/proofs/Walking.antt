@@ -29,8 +29,8 @@ use Rattle.places.specs.declared.worklist.Found.{Found}
 use Rattle.places.specs.declared.worklist.Found.the-variants.{Places, Forbidden, NoRoom}
 use Rattle.places.specs.declared.control.Fetched.{Fetched}
 use Rattle.places.specs.declared.control.Fetched.the-variants.{Word, Outside}
-use Rattle.places.specs.Walk.{seen, counted, handled, Within}
-use Rattle.places.specs.Index.{Indexed, IndexedBy, Known}
+use Rattle.places.specs.Walk.{seen, counted, handled}
+use Rattle.places.specs.Index.{Tabled, Ready, ReadyBy, Known}
 use Rattle.model.specs.Walk.{Walked, table, refused, endless, grow, grown, tested, handle, walk, placesOf}
 
 -- adding a place: present, new, no room
@@ -83,30 +83,29 @@ module _ (k : List Place → Walked) (l : List ℕ) {w : Found} where
   unfolding grown seen
   grown-full e = rw e
 
-pub within-places : {room n : ℕ} {w : Found} → w ≡ Places n → Within room w → n ≤ room
-unfolding Within
-within-places e h = rw e at h
+pub ready-places : {room n : ℕ} {w : Found} {t h l : List ℕ} → w ≡ Places n → ReadyBy room w t h l → Ready room t n h l
+unfolding ReadyBy
+ready-places e x = rw e at x
 
-pub indexed-places : {w : Found} {n : ℕ} {t h l : List ℕ} → w ≡ Places n → IndexedBy w t h l → Indexed t n h l
-unfolding IndexedBy
-indexed-places e x = rw e at x
+pub ready-tabled : {room n : ℕ} {t h l : List ℕ} → Ready room t n h l → Tabled t n h l
+ready-tabled x = record { fits = omega arith; few = omega arith; index = x .index }
 
 -- the same knowledge of an equal walk
 pub known-by : {room : ℕ} {w v : Walked} {r : Found} {t h l : List ℕ} → v ≡ w → Known room v r t h l → Known room w r t h l
-known-by e x = record { reads = x .reads ∙ e; fits = x .fits; index = x .index }
+known-by e x = record { reads = x .reads ∙ e; ready = x .ready }
 
 -- an answer that ends the walk
 pub ended-forbidden : {room : ℕ} {w : Walked} {a : ℕ} (t h l : List ℕ) → seen (Forbidden a) t ≡ w → Known room w (Forbidden a) t h l
-unfolding Within IndexedBy
-ended-forbidden t h l e = record { reads = e; fits = tt; index = tt }
+unfolding ReadyBy
+ended-forbidden t h l e = record { reads = e; ready = tt }
 
 pub ended-full : {room : ℕ} {w : Walked} {a : ℕ} (t h l : List ℕ) → seen (NoRoom a) t ≡ w → Known room w (NoRoom a) t h l
-unfolding Within IndexedBy
-ended-full t h l e = record { reads = e; fits = tt; index = tt }
+unfolding ReadyBy
+ended-full t h l e = record { reads = e; ready = tt }
 
-pub still : {room n : ℕ} {w : Walked} {t h l : List ℕ} → seen (Places n) t ≡ w → n ≤ room → Indexed t n h l → Known room w (Places n) t h l
-unfolding Within IndexedBy
-still e f i = record { reads = e; fits = f; index = i }
+pub still : {room n : ℕ} {w : Walked} {t h l : List ℕ} → seen (Places n) t ≡ w → Ready room t n h l → Known room w (Places n) t h l
+unfolding ReadyBy
+still e i = record { reads = e; ready = i }
 
 -- a place handled, with nothing after it, and then the rest
 module _ (image : List ℕ) (base : ℕ) where
@@ -180,12 +179,12 @@ module _ (image : List ℕ) (base cap : ℕ) (ps : List Place) (p n k : ℕ) {f 
         (sym (grown-table image base (grow cap ps (names (transferOf (instructionOf word)) p n))))
 
 -- what is known after a held place
-pub held-known : (p : ℕ) (b : Bool) {room n : ℕ} {w : Walked} {r : Found} {t h l : List ℕ} → r ≡ pick b (Places n) (Forbidden p) → seen r t ≡ w → n ≤ room
-    → Indexed t n h l → Known room w r t h l
-held-known p b {room} {n} {w} {r} {t} {h} {l} e s m i = rw e (go b (rw e at s))
+pub held-known : (p : ℕ) (b : Bool) {room n : ℕ} {w : Walked} {r : Found} {t h l : List ℕ} → r ≡ pick b (Places n) (Forbidden p) → seen r t ≡ w
+    → Ready room t n h l → Known room w r t h l
+held-known p b {room} {n} {w} {r} {t} {h} {l} e s i = rw e (go b (rw e at s))
   where
     go : (v : Bool) → seen (pick v (Places n) (Forbidden p)) t ≡ w → Known room w (pick v (Places n) (Forbidden p)) t h l
-    go true k = still k m i
+    go true k = still k i
     go false k = ended-forbidden t h l k
 
 -- one turn of the walk, and its end

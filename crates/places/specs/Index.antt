@@ -1,5 +1,5 @@
 -- The index of the place table: places with one hash form a chain, from the newest to the oldest.
-use Prim.Native.Nat.{ℕ, zero, suc, _+_, _*_, _/_, _%_, _<_}
+use Prim.Native.Nat.{ℕ, zero, suc, _+_, _*_, _/_, _%_, _≤_, _<_}
 use mathlib.Core.Bool.{false}
 use mathlib.Core.List.{List}
 use mathlib.Core.Path.{_≡_}
@@ -12,7 +12,7 @@ use Rattle.model.specs.Walk.{Walked}
 use Rattle.places.specs.declared.worklist.Found.{Found}
 use Rattle.places.specs.declared.worklist.Found.the-variants.{Places, Forbidden, NoRoom}
 use Rattle.places.specs.Table.{placeIn, ShowsIn}
-use Rattle.places.specs.Walk.{seen, Within}
+use Rattle.places.specs.Walk.{seen}
 
 unfoldable pub hashOf : ℕ → ℕ → ℕ
 hashOf p n = (p / 4 % 65536 + n / 4 % 65536 * 37) % 8192
@@ -35,13 +35,26 @@ pub record Indexed (bytes : List ℕ) (n : ℕ) (heads links : List ℕ) : Type 
   pub shows : (i : ℕ) → i < n → ShowsIn bytes i
   pub apart : (i j : ℕ) → i < j → j < n → samePlace (placeIn bytes i) (placeIn bytes j) ≡ false
 
-unfoldable pub IndexedBy : Found → List ℕ → List ℕ → List ℕ → Type 0
-IndexedBy (Places n) bytes heads links = Indexed bytes n heads links
-IndexedBy (Forbidden a) bytes heads links = Unit {0}
-IndexedBy (NoRoom a) bytes heads links = Unit {0}
+-- n places that lie in the bytes and can all be numbered, with the index that fits them
+pub record Tabled (bytes : List ℕ) (n : ℕ) (heads links : List ℕ) : Type 0 where
+  pub fits : 16 * n ≤ length bytes
+  pub few : n ≤ 8192
+  pub index : Indexed bytes n heads links
 
--- an answer reads as a walk of the definitions, its places fit the room, and the index fits its table
+-- the same of a table that has room for more
+pub record Ready (room : ℕ) (bytes : List ℕ) (n : ℕ) (heads links : List ℕ) : Type 0 where
+  pub within : n ≤ room
+  pub fits : 16 * room ≤ length bytes
+  pub few : room ≤ 8192
+  pub index : Indexed bytes n heads links
+
+-- a walk can go on from an answer that does not end it
+unfoldable pub ReadyBy : ℕ → Found → List ℕ → List ℕ → List ℕ → Type 0
+ReadyBy room (Places n) bytes heads links = Ready room bytes n heads links
+ReadyBy room (Forbidden a) bytes heads links = Unit {0}
+ReadyBy room (NoRoom a) bytes heads links = Unit {0}
+
+-- an answer reads as a walk of the definitions, and the walk can go on from it
 pub record Known (room : ℕ) (w : Walked) (r : Found) (bytes heads links : List ℕ) : Type 0 where
   pub reads : seen r bytes ≡ w
-  pub fits : Within room r
-  pub index : IndexedBy r bytes heads links
+  pub ready : ReadyBy room r bytes heads links

@@ -1,5 +1,5 @@
 -- What the code's walk answers, read with the table that it left.
-use Prim.Native.Nat.{ℕ, _≤_}
+use Prim.Native.Nat.{ℕ}
 use mathlib.Core.List.{List}
 use lib.Dec.{ltb}
 use Rattle.numbers.specs.Choice.{pick}
@@ -22,9 +22,3 @@ counted room a n = pick (ltb room n) (NoRoom a) (Places n)
 -- a place handled, with nothing after it
 unfoldable pub handled : List ℕ → ℕ → ℕ → List Place → Place → Walked
 handled image base cap ps x = tested image base table cap ps x (allowed image base x)
-
--- the places that an answer counts fit the room
-unfoldable pub Within : ℕ → Found → Type 0
-Within room (Places n) = n ≤ room
-Within room (Forbidden a) = Unit {0}
-Within room (NoRoom a) = Unit {0}

@@ -2,9 +2,11 @@
 ghost use mathlib.Core.Path.{_≡_};
 ghost use Rattle.numbers.specs.Choice.{pick};
 ghost use Rattle.numbers.specs.Number.{plus};
-ghost use Rattle.model.specs.OldCore.{wordIn, target};
+ghost use Rattle.model.specs.OldCore.{wordIn};
 ghost use Rattle.model.specs.Places.{mayBeHeld};
 ghost use Rattle.places.specs.Control.{wordOf, transferred};
+use machine::SourcePc;
+use machine::further;
 use words::Flow;
 
 // The word at an address, if that lies in the image.
@@ -13,29 +15,22 @@ pub enum Fetched {
     Outside,
 }
 
-pub fn fetch(image: &[u8], base: u32, p: u32) -> Fetched
-    ensures { λ r. ⌜ wordOf r ≡ wordIn (now (image .entry)) base p ⌝ }
+pub fn fetch(image: &[u8], base: u32, p: SourcePc) -> Fetched
+    ensures { λ r. ⌜ wordOf r ≡ wordIn (now (image .entry)) base (p .0) ⌝ }
 {
-    let at = numbers::subtract(p, base) as usize;
+    let at = numbers::subtract(p.0, base) as usize;
     if at + 4 <= image.len() {
         return Fetched::Word(numbers::read_number(image, at));
     }
     Fetched::Outside
 }
 
-// Where a displacement, which counts words, leads from an address.
-pub fn target(p: u32, disp: u32) -> u32
-    ensures { λ r. ⌜ r ≡ target p disp ⌝ }
-{
-    numbers::add(p, disp << 2)
-}
-
 // Where a branch that is not taken goes on: past its delay slot, if that is annulled.
-pub fn untaken(annul: bool, n: u32) -> u32
-    ensures { λ r. ⌜ r ≡ pick annul (plus n 4) n ⌝ }
+pub fn untaken(annul: bool, n: SourcePc) -> SourcePc
+    ensures { λ r. ⌜ r .0 ≡ pick annul (plus (n .0) 4) (n .0) ⌝ }
 {
     if annul {
-        return numbers::add(n, 4);
+        return further(n, 4);
     }
     n
 }

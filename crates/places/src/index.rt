@@ -1,15 +1,16 @@
 // The index of a place table: places with one hash form a chain, from the newest to the oldest.
 ghost use mathlib.Core.Path.{_≡_};
-ghost use Prim.Native.Nat.{_+_, _*_, _≤_, _<_};
-ghost use lib.ListN.{length, getD, set};
+ghost use Prim.Native.Nat.{_+_, _<_};
+ghost use lib.ListN.{getD, set};
 ghost use Rattle.places.specs.Table.{placeOf, placesIn, numberOf, Shows};
-ghost use Rattle.places.specs.Index.{hashOf, Indexed};
+ghost use Rattle.places.specs.Index.{hashOf, Tabled};
 use crate::table::is_place;
+use machine::SourcePc;
 
-fn hash(p: u32, n: u32) -> usize
-    ensures { λ r. ⌜ r ≡ hashOf p n ⌝ }
+fn hash(p: SourcePc, n: SourcePc) -> usize
+    ensures { λ r. ⌜ r ≡ hashOf (p .0) (n .0) ⌝ }
 {
-    let h = (p / 4 % 65536 + n / 4 % 65536 * 37) % 8192;
+    let h = (p.0 / 4 % 65536 + n.0 / 4 % 65536 * 37) % 8192;
     h as usize
 }
 
@@ -19,17 +20,17 @@ pub fn find(
     heads: &[u16; 8192],
     links: &[u16; 8192],
     count: usize,
-    p: u32,
-    n: u32,
+    p: SourcePc,
+    n: SourcePc,
     kind: u32,
 ) -> usize
-    requires { ⌜ (16 * count ≤ length (now places)) × (count ≤ 8192) × Shows p n kind × Indexed (now places) count (now heads) (now links) ⌝ }
-    ensures { λ r. ⌜ r ≡ numberOf (placeOf p n kind) (placesIn (now (places .entry)) count) ⌝ }
+    requires { ⌜ Tabled (now places) count (now heads) (now links) × Shows (p .0) (n .0) kind ⌝ }
+    ensures { λ r. ⌜ r ≡ numberOf (placeOf (p .0) (n .0) kind) (placesIn (now (places .entry)) count) ⌝ }
 {
     let mut j = heads[hash(p, n)] as usize;
     while 0 < j {
         let i = j - 1;
-        if is_place(places, i, p, n, kind) {
+        if is_place(places, i, p.0, n.0, kind) {
             return i;
         }
         j = links[i] as usize;
@@ -38,9 +39,15 @@ pub fn find(
 }
 
 // Row `count` comes to the index.
-pub fn enter(heads: &mut [u16; 8192], links: &mut [u16; 8192], count: usize, p: u32, n: u32)
+pub fn enter(
+    heads: &mut [u16; 8192],
+    links: &mut [u16; 8192],
+    count: usize,
+    p: SourcePc,
+    n: SourcePc,
+)
     requires { ⌜ count < 8192 ⌝ }
-    ensures { λ _. ⌜ (now (heads .exit) ≡ set (now (heads .entry)) (hashOf p n) (count + 1)) × (now (links .exit) ≡ set (now (links .entry)) count (getD (now (heads .entry)) (hashOf p n) 0)) ⌝ }
+    ensures { λ _. ⌜ (now (heads .exit) ≡ set (now (heads .entry)) (hashOf (p .0) (n .0)) (count + 1)) × (now (links .exit) ≡ set (now (links .entry)) count (getD (now (heads .entry)) (hashOf (p .0) (n .0)) 0)) ⌝ }
 {
     let h = hash(p, n);
     links[count] = heads[h];

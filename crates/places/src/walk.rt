@@ -10,7 +10,7 @@ ghost use Rattle.model.specs.Walk.{grow, walk, placesOf};
 ghost use Rattle.places.specs.declared.worklist.Found.the-variants.{Places, Forbidden};
 ghost use Rattle.places.specs.Control.{transferred};
 ghost use Rattle.places.specs.Table.{placeIn, placesIn};
-ghost use Rattle.places.specs.Index.{Indexed, Known};
+ghost use Rattle.places.specs.Index.{Ready, Known};
 ghost use Rattle.places.specs.Walk.{handled};
 use crate::control::Fetched;
 use crate::control::fetch;
@@ -21,16 +21,17 @@ use crate::table::next;
 use crate::worklist::Found;
 use crate::worklist::add_names;
 use crate::worklist::add_plain;
+use machine::SourcePc;
 use words::Flow;
 
 // Handles a held place: it has no followers, but its word is tested.
-fn handle_held(count: usize, f: Flow, p: u32) -> Found
-    ensures { λ r. ⌜ r ≡ pick (mayBeHeld (transferred f)) (Places count) (Forbidden p) ⌝ }
+fn handle_held(count: usize, f: Flow, p: SourcePc) -> Found
+    ensures { λ r. ⌜ r ≡ pick (mayBeHeld (transferred f)) (Places count) (Forbidden (p .0)) ⌝ }
 {
     if may_be_held(f) {
         return Found::Places(count);
     }
-    Found::Forbidden(p)
+    Found::Forbidden(p.0)
 }
 
 // Handles place `at`: a held place's word is tested, another's followers are added in order.
@@ -44,7 +45,7 @@ fn handle(
     room: usize,
     at: usize,
 ) -> Found
-    requires { ⌜ (at < count) × (count ≤ room) × (16 * room ≤ length (now places)) × (room ≤ 8192) × Indexed (now places) count (now heads) (now links) ⌝ }
+    requires { ⌜ (at < count) × Ready room (now places) count (now heads) (now links) ⌝ }
     ensures { λ r. ⌜ Known room (handled (now (image .entry)) base room (placesIn (now (places .entry)) count) (placeIn (now (places .entry)) at)) r (now (places .exit)) (now (heads .exit)) (now (links .exit)) ⌝ }
 {
     let p = address(places, at);
@@ -72,7 +73,7 @@ fn walk(
     count: usize,
     room: usize,
 ) -> Found
-    requires { ⌜ (count ≤ room) × (16 * room ≤ length (now places)) × (room ≤ 8192) × Indexed (now places) count (now heads) (now links) ⌝ }
+    requires { ⌜ Ready room (now places) count (now heads) (now links) ⌝ }
     ensures { λ r. ⌜ Known room (walk (now (image .entry)) base (suc room) room 0 (placesIn (now (places .entry)) count)) r (now (places .exit)) (now (heads .exit)) (now (links .exit)) ⌝ }
 {
     let mut n = count;
@@ -104,14 +105,14 @@ fn start(
     links: &mut [u16; 8192],
     room: usize,
 ) -> Found
-    requires { ⌜ (4 * k ≤ length (now entries)) × (16 * room ≤ length (now places)) × (room ≤ 8192) × Indexed (now places) 0 (now heads) (now links) ⌝ }
+    requires { ⌜ (4 * k ≤ length (now entries)) × Ready room (now places) 0 (now heads) (now links) ⌝ }
     ensures { λ r. ⌜ Known room (grow room [] (plains (numbersOf (now (entries .entry)) k))) r (now (places .exit)) (now (heads .exit)) (now (links .exit)) ⌝ }
 {
     let mut n: usize = 0;
     let mut j: usize = 0;
     while j < k {
         let e = numbers::read_number(entries, 4 * j);
-        let w = add_plain(places, heads, links, n, room, e);
+        let w = add_plain(places, heads, links, n, room, SourcePc(e));
         match w {
             Found::Places(m) => {
                 n = m;
@@ -139,7 +140,7 @@ pub fn find_places(
     links: &mut [u16; 8192],
     room: usize,
 ) -> Found
-    requires { ⌜ (4 * k ≤ length (now entries)) × (16 * room ≤ length (now places)) × (room ≤ 8192) × Indexed (now places) 0 (now heads) (now links) ⌝ }
+    requires { ⌜ (4 * k ≤ length (now entries)) × Ready room (now places) 0 (now heads) (now links) ⌝ }
     ensures { λ r. ⌜ Known room (placesOf (now (image .entry)) base room (numbersOf (now (entries .entry)) k)) r (now (places .exit)) (now (heads .exit)) (now (links .exit)) ⌝ }
 {
     let w = start(entries, k, places, heads, links, room);

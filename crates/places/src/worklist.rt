@@ -1,22 +1,22 @@
 // The worklist: a place that is named takes the next number, unless it is present.
 ghost use mathlib.Core.Path.{_≡_};
-ghost use Prim.Native.Nat.{_*_, _≤_};
 ghost use mathlib.Core.List.{[], _∷_};
-ghost use lib.ListN.{length};
 ghost use Rattle.words.specs.declared.Flow.the-variants.{Jumps};
 ghost use Rattle.model.specs.declared.Place.the-variants.{Pair, Held};
 ghost use Rattle.model.specs.Places.{plain, whichOf, biccNames, names};
 ghost use Rattle.model.specs.Walk.{grow, grown};
 ghost use Rattle.places.specs.Control.{transferred};
 ghost use Rattle.places.specs.Table.{placeOf, placesIn, Shows};
-ghost use Rattle.places.specs.Index.{Indexed, IndexedBy, Known};
-ghost use Rattle.places.specs.Walk.{seen, counted, Within};
-use crate::control::target;
+ghost use Rattle.places.specs.Index.{Ready, ReadyBy, Known};
+ghost use Rattle.places.specs.Walk.{seen, counted};
 use crate::control::untaken;
 use crate::index::enter;
 use crate::index::find;
 use crate::table::pair_kind;
 use crate::table::write_place;
+use machine::SourcePc;
+use machine::further;
+use model::target;
 use words::Flow;
 
 // How the walk stands, or ended: so many places, a held place with a forbidden word, a place for which there is no room.
@@ -33,18 +33,18 @@ fn add(
     links: &mut [u16; 8192],
     count: usize,
     room: usize,
-    p: u32,
-    n: u32,
+    p: SourcePc,
+    n: SourcePc,
     kind: u32,
 ) -> usize
-    requires { ⌜ (count ≤ room) × (16 * room ≤ length (now places)) × (room ≤ 8192) × Shows p n kind × Indexed (now places) count (now heads) (now links) ⌝ }
-    ensures { λ r. ⌜ Known room (grow room (placesIn (now (places .entry)) count) (placeOf p n kind ∷ [])) (counted room p r) (now (places .exit)) (now (heads .exit)) (now (links .exit)) ⌝ }
+    requires { ⌜ Ready room (now places) count (now heads) (now links) × Shows (p .0) (n .0) kind ⌝ }
+    ensures { λ r. ⌜ Known room (grow room (placesIn (now (places .entry)) count) (placeOf (p .0) (n .0) kind ∷ [])) (counted room (p .0) r) (now (places .exit)) (now (heads .exit)) (now (links .exit)) ⌝ }
 {
     if find(places, heads, links, count, p, n, kind) < count {
         return count;
     }
     if count < room {
-        write_place(places, count, p, n, kind);
+        write_place(places, count, p.0, n.0, kind);
         enter(heads, links, count, p, n);
         return count + 1;
     }
@@ -66,13 +66,13 @@ pub fn add_plain(
     links: &mut [u16; 8192],
     count: usize,
     room: usize,
-    p: u32,
+    p: SourcePc,
 ) -> Found
-    requires { ⌜ (count ≤ room) × (16 * room ≤ length (now places)) × (room ≤ 8192) × Indexed (now places) count (now heads) (now links) ⌝ }
-    ensures { λ r. ⌜ Known room (grow room (placesIn (now (places .entry)) count) (plain p ∷ [])) r (now (places .exit)) (now (heads .exit)) (now (links .exit)) ⌝ }
+    requires { ⌜ Ready room (now places) count (now heads) (now links) ⌝ }
+    ensures { λ r. ⌜ Known room (grow room (placesIn (now (places .entry)) count) (plain (p .0) ∷ [])) r (now (places .exit)) (now (heads .exit)) (now (links .exit)) ⌝ }
 {
-    let m = add(places, heads, links, count, room, p, numbers::add(p, 4), 0);
-    counted(room, p, m)
+    let m = add(places, heads, links, count, room, p, further(p, 4), 0);
+    counted(room, p.0, m)
 }
 
 fn add_pair(
@@ -81,14 +81,14 @@ fn add_pair(
     links: &mut [u16; 8192],
     count: usize,
     room: usize,
-    p: u32,
-    n: u32,
+    p: SourcePc,
+    n: SourcePc,
 ) -> Found
-    requires { ⌜ (count ≤ room) × (16 * room ≤ length (now places)) × (room ≤ 8192) × Indexed (now places) count (now heads) (now links) ⌝ }
-    ensures { λ r. ⌜ Known room (grow room (placesIn (now (places .entry)) count) (Pair p n ∷ [])) r (now (places .exit)) (now (heads .exit)) (now (links .exit)) ⌝ }
+    requires { ⌜ Ready room (now places) count (now heads) (now links) ⌝ }
+    ensures { λ r. ⌜ Known room (grow room (placesIn (now (places .entry)) count) (Pair (p .0) (n .0) ∷ [])) r (now (places .exit)) (now (heads .exit)) (now (links .exit)) ⌝ }
 {
     let m = add(places, heads, links, count, room, p, n, pair_kind(p, n));
-    counted(room, p, m)
+    counted(room, p.0, m)
 }
 
 fn add_held(
@@ -97,13 +97,13 @@ fn add_held(
     links: &mut [u16; 8192],
     count: usize,
     room: usize,
-    p: u32,
+    p: SourcePc,
 ) -> Found
-    requires { ⌜ (count ≤ room) × (16 * room ≤ length (now places)) × (room ≤ 8192) × Indexed (now places) count (now heads) (now links) ⌝ }
-    ensures { λ r. ⌜ Known room (grow room (placesIn (now (places .entry)) count) (Held p ∷ [])) r (now (places .exit)) (now (heads .exit)) (now (links .exit)) ⌝ }
+    requires { ⌜ Ready room (now places) count (now heads) (now links) ⌝ }
+    ensures { λ r. ⌜ Known room (grow room (placesIn (now (places .entry)) count) (Held (p .0) ∷ [])) r (now (places .exit)) (now (heads .exit)) (now (links .exit)) ⌝ }
 {
-    let m = add(places, heads, links, count, room, p, 0, 2);
-    counted(room, p, m)
+    let m = add(places, heads, links, count, room, p, SourcePc(0), 2);
+    counted(room, p.0, m)
 }
 
 // Adds a plain place after another, if there was room for that.
@@ -113,10 +113,10 @@ fn then_plain(
     links: &mut [u16; 8192],
     w: Found,
     room: usize,
-    p: u32,
+    p: SourcePc,
 ) -> Found
-    requires { ⌜ Within room w × (16 * room ≤ length (now places)) × (room ≤ 8192) × IndexedBy w (now places) (now heads) (now links) ⌝ }
-    ensures { λ r. ⌜ Known room (grown (λ ps. grow room ps (plain p ∷ [])) (seen w (now (places .entry)))) r (now (places .exit)) (now (heads .exit)) (now (links .exit)) ⌝ }
+    requires { ⌜ ReadyBy room w (now places) (now heads) (now links) ⌝ }
+    ensures { λ r. ⌜ Known room (grown (λ ps. grow room ps (plain (p .0) ∷ [])) (seen w (now (places .entry)))) r (now (places .exit)) (now (heads .exit)) (now (links .exit)) ⌝ }
 {
     match w {
         Found::Places(n) => add_plain(places, heads, links, n, room, p),
@@ -134,11 +134,11 @@ fn add_branch(
     room: usize,
     cond: u32,
     annul: bool,
-    t: u32,
-    n: u32,
+    t: SourcePc,
+    n: SourcePc,
 ) -> Found
-    requires { ⌜ (count ≤ room) × (16 * room ≤ length (now places)) × (room ≤ 8192) × Indexed (now places) count (now heads) (now links) ⌝ }
-    ensures { λ r. ⌜ Known room (grow room (placesIn (now (places .entry)) count) (biccNames (whichOf cond) annul t n)) r (now (places .exit)) (now (heads .exit)) (now (links .exit)) ⌝ }
+    requires { ⌜ Ready room (now places) count (now heads) (now links) ⌝ }
+    ensures { λ r. ⌜ Known room (grow room (placesIn (now (places .entry)) count) (biccNames (whichOf cond) annul (t .0) (n .0))) r (now (places .exit)) (now (heads .exit)) (now (links .exit)) ⌝ }
 {
     if cond == 0 {
         return add_plain(places, heads, links, count, room, untaken(annul, n));
@@ -161,17 +161,17 @@ fn add_jump(
     count: usize,
     room: usize,
     rd: u32,
-    p: u32,
-    n: u32,
+    p: SourcePc,
+    n: SourcePc,
 ) -> Found
-    requires { ⌜ (count ≤ room) × (16 * room ≤ length (now places)) × (room ≤ 8192) × Indexed (now places) count (now heads) (now links) ⌝ }
-    ensures { λ r. ⌜ Known room (grow room (placesIn (now (places .entry)) count) (names (transferred (Jumps rd)) p n)) r (now (places .exit)) (now (heads .exit)) (now (links .exit)) ⌝ }
+    requires { ⌜ Ready room (now places) count (now heads) (now links) ⌝ }
+    ensures { λ r. ⌜ Known room (grow room (placesIn (now (places .entry)) count) (names (transferred (Jumps rd)) (p .0) (n .0))) r (now (places .exit)) (now (heads .exit)) (now (links .exit)) ⌝ }
 {
     let w = add_held(places, heads, links, count, room, n);
     if rd == 0 {
         return w;
     }
-    then_plain(places, heads, links, w, room, numbers::add(p, 8))
+    then_plain(places, heads, links, w, room, further(p, 8))
 }
 
 // Adds what a word at (p, n) names, in its order.
@@ -182,11 +182,11 @@ pub fn add_names(
     count: usize,
     room: usize,
     f: Flow,
-    p: u32,
-    n: u32,
+    p: SourcePc,
+    n: SourcePc,
 ) -> Found
-    requires { ⌜ (count ≤ room) × (16 * room ≤ length (now places)) × (room ≤ 8192) × Indexed (now places) count (now heads) (now links) ⌝ }
-    ensures { λ r. ⌜ Known room (grow room (placesIn (now (places .entry)) count) (names (transferred f) p n)) r (now (places .exit)) (now (heads .exit)) (now (links .exit)) ⌝ }
+    requires { ⌜ Ready room (now places) count (now heads) (now links) ⌝ }
+    ensures { λ r. ⌜ Known room (grow room (placesIn (now (places .entry)) count) (names (transferred f) (p .0) (n .0))) r (now (places .exit)) (now (heads .exit)) (now (links .exit)) ⌝ }
 {
     match f {
         Flow::Faults => Found::Places(count),
@@ -194,7 +194,7 @@ pub fn add_names(
         Flow::Continues => add_plain(places, heads, links, count, room, n),
         Flow::Calls(disp) => {
             let w = add_pair(places, heads, links, count, room, n, target(p, disp));
-            then_plain(places, heads, links, w, room, numbers::add(p, 8))
+            then_plain(places, heads, links, w, room, further(p, 8))
         }
         Flow::Branches(cond, annul, disp) => {
             let t = target(p, disp);

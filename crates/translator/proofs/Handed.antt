@@ -4,8 +4,6 @@ use types.Run.{OneOf, miss}
 use Rattle.numbers.proofs.Areas.{bytes-of-numbers}
 use Rattle.numbers.specs.Number.{upTo, numbersOf, bytesOf, zeroFrom}
 use Rattle.model.specs.declared.Place.{Place}
-use Rattle.model.specs.Cases.{answered}
-use Rattle.places.specs.declared.worklist.Found.the-variants.{Places}
 use Rattle.places.proofs.Rows.{length-places}
 use Rattle.places.specs.Table.{placesIn}
 use Rattle.translator.proofs.Laying.{first-laid}

@@ -58,30 +58,28 @@ put-append f (two r s) rest =
     ∙ rw (record-append (numbered f s) (recordsNumbers rest), record-append (numbered f r) (recordNumbers (numbered f s) [])) (simp append-assoc)
 
 -- records put one after the other
-pub then-record : (at : ℕ) (l0 l1 l2 v w : List ℕ) → numbersOf l1 (3 * at + 3) ≡ numbersOf l0 (3 * at) ++ v
-    → numbersOf l2 (3 * (at + 1) + 3) ≡ numbersOf l1 (3 * (at + 1)) ++ w → numbersOf l2 (3 * (at + 2)) ≡ numbersOf l0 (3 * at) ++ (v ++ w)
-then-record at l0 l1 l2 v w h i =
+pub then-record : (at : ℕ) (l0 l1 l2 : List ℕ) (x y : Rec ℕ) → numbersOf l1 (3 * at + 3) ≡ numbersOf l0 (3 * at) ++ recordsNumbers (x ∷ [])
+    → numbersOf l2 (3 * (at + 1) + 3) ≡ numbersOf l1 (3 * (at + 1)) ++ recordsNumbers (y ∷ [])
+    → numbersOf l2 (3 * (at + 2)) ≡ numbersOf l0 (3 * at) ++ recordsNumbers (x ∷ y ∷ [])
+unfolding recordsNumbers
+then-record at l0 l1 l2 x y h i =
     let k : 3 * (at + 2) ≡ 3 * (at + 1) + 3 = omega arith in
     let m : 3 * (at + 1) ≡ 3 * at + 3 = omega arith in
-    rw k (i ∙ rw (m, h) (append-assoc (numbersOf l0 (3 * at)) v w))
+    rw (k, record-append x (recordNumbers y []))
+    (i ∙ rw (m, h) (append-assoc (numbersOf l0 (3 * at)) (recordNumbers x []) (recordNumbers y [])))
 
 -- a group put, of one record or of two, from the numbers that were put
 module _ (f : Place → ℕ) (at : ℕ) (l0 l1 : List ℕ) where
-  pub puts-one : (x : Rec Place) {v : List ℕ} {r : ℕ} → (r ≡ at + 1) × (numbersOf l1 (3 * r) ≡ numbersOf l0 (3 * at) ++ v)
-      → recordNumbers (numbered f x) [] ≡ v → Puts f (one x) at l0 l1 r
-  unfolding past put recordsNumbers
+  pub puts-one : (x : Rec Place) {u : Rec ℕ} {r : ℕ} → (r ≡ at + 1) × (numbersOf l1 (3 * r) ≡ numbersOf l0 (3 * at) ++ recordsNumbers (u ∷ []))
+      → numbered f x ≡ u → Puts f (one x) at l0 l1 r
+  unfolding past put
   puts-one x h e = record { reaches = h .0 ∙ add-one at; numbers = rw (← add-one at, ← h .0, e) (h .1) }
 
-  pub puts-two : (x y : Rec Place) {a b c d e g r : ℕ}
-      → (r ≡ at + 2) × (numbersOf l1 (3 * r) ≡ numbersOf l0 (3 * at) ++ (a ∷ b ∷ c ∷ d ∷ e ∷ g ∷ []))
-      → recordNumbers (numbered f x) [] ≡ a ∷ b ∷ c ∷ [] → recordNumbers (numbered f y) [] ≡ d ∷ e ∷ g ∷ [] → Puts f (two x y) at l0 l1 r
-  unfolding past put recordsNumbers
-  puts-two x y {r = r} h u v =
-      let k : suc (suc at) ≡ r = omega (arith, h .0) in
-      record {
-        reaches = sym k;
-        numbers = rw (k, record-append (numbered f x) (recordNumbers (numbered f y) []), u, v) (h .1);
-      }
+  pub puts-two : (x y : Rec Place) {u v : Rec ℕ} {r : ℕ}
+      → (r ≡ at + 2) × (numbersOf l1 (3 * r) ≡ numbersOf l0 (3 * at) ++ recordsNumbers (u ∷ v ∷ [])) → numbered f x ≡ u → numbered f y ≡ v
+      → Puts f (two x y) at l0 l1 r
+  unfolding past put
+  puts-two x y {r = r} h d e = let k : suc (suc at) ≡ r = omega (arith, h .0) in record { reaches = sym k; numbers = rw (k, d, e) (h .1) }
 
 pub puts-as : {f : Place → ℕ} {g h : Group Place} {at : ℕ} {l m : List ℕ} {r : ℕ} → g ≡ h → Puts f h at l m r → Puts f g at l m r
 puts-as e x = rw e x

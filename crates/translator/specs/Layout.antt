@@ -1,13 +1,32 @@
--- Where the groups stand: the records in all, the first record of a place as the table has it, and a group that was put.
-use Prim.Native.Nat.{ℕ, _+_, _*_}
+-- Where the groups stand: what an extent counts, a record of the code, the first record of a place as the table has it, and a group that was put.
+use Prim.Native.Nat.{ℕ, _+_, _*_, _≤_}
 use mathlib.Core.Path.{_≡_}
 use mathlib.Core.List.{List, [], _∷_, _++_}
 use lib.Dec.{ltb}
 use Rattle.numbers.specs.Choice.{pick}
 use Rattle.numbers.specs.Number.{numberAt, numbersOf}
 use Rattle.model.specs.declared.Place.{Place}
-use Rattle.model.specs.Records.{Group, one, two, group, past, put, rowsFrom, tableNumbers, recordsNumbers}
+use Rattle.model.specs.Records.{Rec, doWord, link, hold, goIf, goTo, goHeld, stop, Group, one, two, group, past, put, rowsFrom, tableNumbers, recordsNumbers}
 use Rattle.places.specs.Table.{placesIn, numberOf}
+use Rattle.places.specs.Index.{Tabled}
+use Rattle.translator.specs.declared.records.Extent.{Extent}
+use Rattle.translator.specs.declared.records.Record.{Record}
+use Rattle.translator.specs.declared.records.Record.the-variants.{DoWord, Link, Hold, GoIf, GoTo, GoHeld, Stop}
+
+-- an extent counts the places of an indexed table, and no more records than they can have
+pub record Counts (e : Extent) (bytes heads links : List ℕ) : Type 0 where
+  pub places : Tabled bytes (e .count) heads links
+  pub records : e .total ≤ 16384
+
+-- a record of the code as the definitions have it
+unfoldable pub recorded : Record → Rec ℕ
+recorded (DoWord w) = doWord w
+recorded (Link p) = link (p .0)
+recorded (Hold w p) = hold w (p .0)
+recorded (GoIf c r) = goIf c (r .0)
+recorded (GoTo r) = goTo (r .0)
+recorded GoHeld = goHeld
+recorded (Stop e p) = stop e (p .0)
 
 -- the records of a group
 unfoldable pub size : Group Place → ℕ

@@ -10,6 +10,7 @@ ghost use Rattle.model.specs.Records.{biccGroup, groupOf, heldGroupOf, group};
 ghost use Rattle.places.specs.Control.{transferred};
 ghost use Rattle.places.specs.Table.{placesIn, ShowsIn, SameRow};
 ghost use Rattle.translator.specs.Layout.{size, Laid};
+use machine::SourcePc;
 use places::control::Fetched;
 use places::control::fetch;
 use places::table::address;
@@ -49,8 +50,8 @@ fn word_size(f: Flow, held: bool) -> usize
 }
 
 // How many records a place has, whatever its next is.
-fn group_size(image: &[u8], base: u32, p: u32, held: bool) -> usize
-    ensures { λ r. ⌜ ((n : ℕ) → r ≡ size (group (now (image .entry)) base (pick held (Held p) (Pair p n)))) ⌝ }
+fn group_size(image: &[u8], base: u32, p: SourcePc, held: bool) -> usize
+    ensures { λ r. ⌜ ((n : ℕ) → r ≡ size (group (now (image .entry)) base (pick held (Held (p .0)) (Pair (p .0) n)))) ⌝ }
 {
     let f = fetch(image, base, p);
     match f {

@@ -8,7 +8,7 @@ ghost use Rattle.model.specs.Translation.{badLength, badCount, badEntry, placeR
 ghost use Rattle.model.specs.Walk.{table};
 ghost use Rattle.model.specs.Records.{numbersIn};
 ghost use Rattle.places.specs.Table.{placesIn};
-ghost use Rattle.places.specs.Index.{Indexed};
+ghost use Rattle.places.specs.Index.{Tabled};
 ghost use Rattle.translator.specs.Handing.{badFrom, placesCounted, recordsCounted, Attempted, Translates};
 use model::Answer;
 use places::walk::find_places;
@@ -85,7 +85,7 @@ fn finish(
     count: usize,
     records: &mut [u8],
 ) -> Answer
-    requires { ⌜ (16 * count ≤ length (now places)) × (count ≤ 8192) × Indexed (now places) count (now heads) (now links) ⌝ }
+    requires { ⌜ Tabled (now places) count (now heads) (now links) ⌝ }
     ensures { λ r. ⌜ ((es : List ℕ) (position : ℕ) → Attempted (fromWalk (now (image .entry)) base es (length (now (places .entry))) (length (now (records .entry))) position (table (placesIn (now (places .entry)) count))) r (now (places .exit)) (now (records .exit))) ⌝ }
 {
     let total = layout::lay_out(image, base, places, count);

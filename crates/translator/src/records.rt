@@ -1,4 +1,5 @@
-// The records of all groups, three numbers each, big-endian, in bytes that the caller lends.
+// The records of all groups, three numbers each, big-endian, in bytes that the caller lends. What is put is typed, so that a record's number
+// and a source address, both numbers once written, cannot stand for each other.
 ghost use mathlib.Core.Path.{_≡_};
 ghost use Prim.Native.Nat.{ℕ, _+_, _*_, _≤_, _<_};
 ghost use mathlib.Core.List.{[], _∷_, _++_};
@@ -7,14 +8,17 @@ ghost use Rattle.numbers.specs.Number.{numbersOf};
 ghost use Rattle.model.specs.declared.Place.{Place};
 ghost use Rattle.model.specs.declared.Place.the-variants.{Pair, Held};
 ghost use Rattle.model.specs.Places.{plain, whichOf};
-ghost use Rattle.model.specs.Records.{biccGroup, groupOf, heldGroupOf, group, past, recordsNumbers, recordsFrom};
+ghost use Rattle.model.specs.Records.{biccGroup, groupOf, heldGroupOf, group, past, recordNumbers, recordsNumbers, recordsFrom};
 ghost use Rattle.places.specs.Control.{transferred};
 ghost use Rattle.places.specs.Table.{placeOf, placeIn, placesIn, Shows};
-ghost use Rattle.places.specs.Index.{Indexed};
-ghost use Rattle.translator.specs.Layout.{firstIn, needed, Puts};
+ghost use Rattle.places.specs.Index.{Tabled};
+ghost use Rattle.translator.specs.Layout.{Counts, recorded, firstIn, needed, Puts};
+use machine::SourcePc;
+use machine::TargetPc;
+use machine::further;
+use model::target;
 use places::control::Fetched;
 use places::control::fetch;
-use places::control::target;
 use places::control::untaken;
 use places::index::find;
 use places::table::address;
@@ -29,31 +33,48 @@ pub struct Extent {
     pub total: usize,
 }
 
+// A record, by its kinds from 1 to 7.
+pub enum Record {
+    DoWord(u32),
+    Link(SourcePc),
+    Hold(u32, SourcePc),
+    GoIf(u32, TargetPc),
+    GoTo(TargetPc),
+    GoHeld,
+    Stop(u32, SourcePc),
+}
+
 // The first record of a place, as the table has it; past the last record where the table has it not.
 fn first_record(
     places: &[u8],
     heads: &[u16; 8192],
     links: &[u16; 8192],
     e: Extent,
-    p: u32,
-    n: u32,
+    p: SourcePc,
+    n: SourcePc,
     kind: u32,
-) -> u32
-    requires { ⌜ (16 * e .count ≤ length (now places)) × (e .count ≤ 8192) × (e .total ≤ 16384) × Shows p n kind × Indexed (now places) (e .count) (now heads) (now links) ⌝ }
-    ensures { λ r. ⌜ r ≡ firstIn (now (places .entry)) (e .count) (e .total) (placeOf p n kind) ⌝ }
+) -> TargetPc
+    requires { ⌜ Counts e (now places) (now heads) (now links) × Shows (p .0) (n .0) kind ⌝ }
+    ensures { λ r. ⌜ r .0 ≡ firstIn (now (places .entry)) (e .count) (e .total) (placeOf (p .0) (n .0) kind) ⌝ }
 {
     let j = find(places, heads, links, e.count, p, n, kind);
     if j < e.count {
-        return numbers::read_number(places, 16 * j + 12);
+        return TargetPc(numbers::read_number(places, 16 * j + 12));
     }
-    e.total as u32
+    TargetPc(e.total as u32)
 }
 
-fn first_of_plain(places: &[u8], heads: &[u16; 8192], links: &[u16; 8192], e: Extent, p: u32) -> u32
-    requires { ⌜ (16 * e .count ≤ length (now places)) × (e .count ≤ 8192) × (e .total ≤ 16384) × Indexed (now places) (e .count) (now heads) (now links) ⌝ }
-    ensures { λ r. ⌜ r ≡ firstIn (now (places .entry)) (e .count) (e .total) (plain p) ⌝ }
+fn first_of_plain(
+    places: &[u8],
+    heads: &[u16; 8192],
+    links: &[u16; 8192],
+    e: Extent,
+    p: SourcePc,
+) -> TargetPc
+    requires { ⌜ Counts e (now places) (now heads) (now links) ⌝ }
+    ensures { λ r. ⌜ r .0 ≡ firstIn (now (places .entry)) (e .count) (e .total) (plain (p .0)) ⌝ }
 {
-    first_record(places, heads, links, e, p, numbers::add(p, 4), 0)
+    first_record(places, heads, links, e, p, further(p, 4), 0)
 }
 
 fn first_of_pair(
@@ -61,49 +82,59 @@ fn first_of_pair(
     heads: &[u16; 8192],
     links: &[u16; 8192],
     e: Extent,
-    p: u32,
-    n: u32,
-) -> u32
-    requires { ⌜ (16 * e .count ≤ length (now places)) × (e .count ≤ 8192) × (e .total ≤ 16384) × Indexed (now places) (e .count) (now heads) (now links) ⌝ }
-    ensures { λ r. ⌜ r ≡ firstIn (now (places .entry)) (e .count) (e .total) (Pair p n) ⌝ }
+    p: SourcePc,
+    n: SourcePc,
+) -> TargetPc
+    requires { ⌜ Counts e (now places) (now heads) (now links) ⌝ }
+    ensures { λ r. ⌜ r .0 ≡ firstIn (now (places .entry)) (e .count) (e .total) (Pair (p .0) (n .0)) ⌝ }
 {
     first_record(places, heads, links, e, p, n, pair_kind(p, n))
 }
 
-// Puts record `at`.
-fn put_record(records: &mut [u8], at: usize, kind: u32, first: u32, second: u32)
-    requires { ⌜ 12 * at + 12 ≤ length (now records) ⌝ }
-    ensures { λ _. ⌜ numbersOf (now (records .exit)) (3 * at + 3) ≡ numbersOf (now (records .entry)) (3 * at) ++ (kind ∷ first ∷ second ∷ []) ⌝ }
+// A record's kind and the two numbers after it.
+struct Triple(u32, u32, u32);
+
+fn numbers_of(x: Record) -> Triple
+    ensures { λ r. ⌜ r .0 ∷ r .1 ∷ r .2 ∷ [] ≡ recordNumbers (recorded x) [] ⌝ }
 {
-    numbers::write_number(records, 12 * at, kind);
-    numbers::write_number(records, 12 * at + 4, first);
-    numbers::write_number(records, 12 * at + 8, second);
+    match x {
+        Record::DoWord(word) => Triple(1, word, 0),
+        Record::Link(p) => Triple(2, p.0, 0),
+        Record::Hold(word, p) => Triple(3, word, p.0),
+        Record::GoIf(cond, to) => Triple(4, cond, to.0),
+        Record::GoTo(to) => Triple(5, to.0, 0),
+        Record::GoHeld => Triple(6, 0, 0),
+        Record::Stop(end, p) => Triple(7, end, p.0),
+    }
+}
+
+// Puts record `at`.
+fn put_record(records: &mut [u8], at: usize, x: Record)
+    requires { ⌜ 12 * at + 12 ≤ length (now records) ⌝ }
+    ensures { λ _. ⌜ numbersOf (now (records .exit)) (3 * at + 3) ≡ numbersOf (now (records .entry)) (3 * at) ++ recordsNumbers (recorded x ∷ []) ⌝ }
+{
+    let n = numbers_of(x);
+    numbers::write_number(records, 12 * at, n.0);
+    numbers::write_number(records, 12 * at + 4, n.1);
+    numbers::write_number(records, 12 * at + 8, n.2);
 }
 
 // Puts a group of one record, and answers where the next group comes.
-fn put_one(records: &mut [u8], at: usize, kind: u32, first: u32, second: u32) -> usize
+fn put_one(records: &mut [u8], at: usize, x: Record) -> usize
     requires { ⌜ 12 * at + 12 ≤ length (now records) ⌝ }
-    ensures { λ r. ⌜ (r ≡ at + 1) × (numbersOf (now (records .exit)) (3 * r) ≡ numbersOf (now (records .entry)) (3 * at) ++ (kind ∷ first ∷ second ∷ [])) ⌝ }
+    ensures { λ r. ⌜ (r ≡ at + 1) × (numbersOf (now (records .exit)) (3 * r) ≡ numbersOf (now (records .entry)) (3 * at) ++ recordsNumbers (recorded x ∷ [])) ⌝ }
 {
-    put_record(records, at, kind, first, second);
+    put_record(records, at, x);
     at + 1
 }
 
-// Puts a group of two records, the second of which has no second number, and answers where the next group comes.
-fn put_two(
-    records: &mut [u8],
-    at: usize,
-    kind: u32,
-    first: u32,
-    second: u32,
-    then: u32,
-    to: u32,
-) -> usize
+// Puts a group of two records, and answers where the next group comes.
+fn put_two(records: &mut [u8], at: usize, x: Record, y: Record) -> usize
     requires { ⌜ 12 * at + 24 ≤ length (now records) ⌝ }
-    ensures { λ r. ⌜ (r ≡ at + 2) × (numbersOf (now (records .exit)) (3 * r) ≡ numbersOf (now (records .entry)) (3 * at) ++ (kind ∷ first ∷ second ∷ then ∷ to ∷ 0 ∷ [])) ⌝ }
+    ensures { λ r. ⌜ (r ≡ at + 2) × (numbersOf (now (records .exit)) (3 * r) ≡ numbersOf (now (records .entry)) (3 * at) ++ recordsNumbers (recorded x ∷ recorded y ∷ [])) ⌝ }
 {
-    put_record(records, at, kind, first, second);
-    put_record(records, at + 1, then, to, 0);
+    put_record(records, at, x);
+    put_record(records, at + 1, y);
     at + 2
 }
 
@@ -117,27 +148,27 @@ fn put_branch(
     at: usize,
     cond: u32,
     annul: bool,
-    t: u32,
-    n: u32,
+    t: SourcePc,
+    n: SourcePc,
 ) -> usize
-    requires { ⌜ (16 * e .count ≤ length (now places)) × (e .count ≤ 8192) × (e .total ≤ 16384) × (12 * past (biccGroup (whichOf cond) cond annul t n) at ≤ length (now records)) × Indexed (now places) (e .count) (now heads) (now links) ⌝ }
-    ensures { λ r. ⌜ Puts (firstIn (now (places .entry)) (e .count) (e .total)) (biccGroup (whichOf cond) cond annul t n) at (now (records .entry)) (now (records .exit)) r ⌝ }
+    requires { ⌜ Counts e (now places) (now heads) (now links) × (12 * past (biccGroup (whichOf cond) cond annul (t .0) (n .0)) at ≤ length (now records)) ⌝ }
+    ensures { λ r. ⌜ Puts (firstIn (now (places .entry)) (e .count) (e .total)) (biccGroup (whichOf cond) cond annul (t .0) (n .0)) at (now (records .entry)) (now (records .exit)) r ⌝ }
 {
     if cond == 0 {
         let f = first_of_plain(places, heads, links, e, untaken(annul, n));
-        return put_one(records, at, 5, f, 0);
+        return put_one(records, at, Record::GoTo(f));
     }
     if cond == 8 {
         if annul {
             let f = first_of_plain(places, heads, links, e, t);
-            return put_one(records, at, 5, f, 0);
+            return put_one(records, at, Record::GoTo(f));
         }
         let f = first_of_pair(places, heads, links, e, n, t);
-        return put_one(records, at, 5, f, 0);
+        return put_one(records, at, Record::GoTo(f));
     }
     let f = first_of_pair(places, heads, links, e, n, t);
     let g = first_of_plain(places, heads, links, e, untaken(annul, n));
-    put_two(records, at, 4, cond, f, 5, g)
+    put_two(records, at, Record::GoIf(cond, f), Record::GoTo(g))
 }
 
 // Puts the group of a word at (p, n).
@@ -150,46 +181,51 @@ fn put_word(
     at: usize,
     f: Flow,
     word: u32,
-    p: u32,
-    n: u32,
+    p: SourcePc,
+    n: SourcePc,
 ) -> usize
-    requires { ⌜ (16 * e .count ≤ length (now places)) × (e .count ≤ 8192) × (e .total ≤ 16384) × (12 * past (groupOf (transferred f) word p n) at ≤ length (now records)) × Indexed (now places) (e .count) (now heads) (now links) ⌝ }
-    ensures { λ r. ⌜ Puts (firstIn (now (places .entry)) (e .count) (e .total)) (groupOf (transferred f) word p n) at (now (records .entry)) (now (records .exit)) r ⌝ }
+    requires { ⌜ Counts e (now places) (now heads) (now links) × (12 * past (groupOf (transferred f) word (p .0) (n .0)) at ≤ length (now records)) ⌝ }
+    ensures { λ r. ⌜ Puts (firstIn (now (places .entry)) (e .count) (e .total)) (groupOf (transferred f) word (p .0) (n .0)) at (now (records .entry)) (now (records .exit)) r ⌝ }
 {
     match f {
-        Flow::Faults => put_one(records, at, 7, 3, p),
+        Flow::Faults => put_one(records, at, Record::Stop(3, p)),
         Flow::Continues => {
             let to = first_of_plain(places, heads, links, e, n);
-            put_two(records, at, 1, word, 0, 5, to)
+            put_two(records, at, Record::DoWord(word), Record::GoTo(to))
         }
-        Flow::Traps => put_one(records, at, 1, word, 0),
+        Flow::Traps => put_one(records, at, Record::DoWord(word)),
         Flow::Calls(disp) => {
             let to = first_of_pair(places, heads, links, e, n, target(p, disp));
-            put_two(records, at, 2, p, 0, 5, to)
+            put_two(records, at, Record::Link(p), Record::GoTo(to))
         }
         Flow::Branches(cond, annul, disp) => {
             let t = target(p, disp);
             put_branch(places, heads, links, e, records, at, cond, annul, t, n)
         }
         Flow::Jumps(rd) => {
-            let to = first_record(places, heads, links, e, n, 0, 2);
-            put_two(records, at, 3, word, p, 5, to)
+            let to = first_record(places, heads, links, e, n, SourcePc(0), 2);
+            put_two(records, at, Record::Hold(word, p), Record::GoTo(to))
         }
     }
 }
 
 // Puts the group of a word held at p.
-fn put_held(records: &mut [u8], at: usize, f: Flow, word: u32, p: u32) -> usize
-    requires { ⌜ 12 * past (heldGroupOf (transferred f) word p) at ≤ length (now records) ⌝ }
-    ensures { λ r. ⌜ ((first : Place → ℕ) → Puts first (heldGroupOf (transferred f) word p) at (now (records .entry)) (now (records .exit)) r) ⌝ }
+fn put_held(records: &mut [u8], at: usize, f: Flow, word: u32, p: SourcePc) -> usize
+    requires { ⌜ 12 * past (heldGroupOf (transferred f) word (p .0)) at ≤ length (now records) ⌝ }
+    ensures { λ r. ⌜ ((first : Place → ℕ) → Puts first (heldGroupOf (transferred f) word (p .0)) at (now (records .entry)) (now (records .exit)) r) ⌝ }
 {
     match f {
-        Flow::Faults => put_one(records, at, 7, 3, p),
-        Flow::Continues => put_two(records, at, 1, word, 0, 6, 0),
-        Flow::Traps => put_one(records, at, 1, word, 0),
-        Flow::Calls(disp) => put_two(records, at, 1, word, 0, 6, 0),
-        Flow::Branches(cond, annul, disp) => put_two(records, at, 1, word, 0, 6, 0),
-        Flow::Jumps(rd) => put_two(records, at, 1, word, 0, 6, 0),
+        Flow::Faults => put_one(records, at, Record::Stop(3, p)),
+        Flow::Continues => put_two(records, at, Record::DoWord(word), Record::GoHeld),
+        Flow::Traps => put_one(records, at, Record::DoWord(word)),
+        Flow::Calls(disp) => put_two(records, at, Record::DoWord(word), Record::GoHeld),
+        Flow::Branches(cond, annul, disp) => put_two(
+            records,
+            at,
+            Record::DoWord(word),
+            Record::GoHeld,
+        ),
+        Flow::Jumps(rd) => put_two(records, at, Record::DoWord(word), Record::GoHeld),
     }
 }
 
@@ -205,7 +241,7 @@ fn put_group(
     at: usize,
     i: usize,
 ) -> usize
-    requires { ⌜ (16 * e .count ≤ length (now places)) × (e .count ≤ 8192) × (e .total ≤ 16384) × (i < e .count) × (12 * past (group (now image) base (placeIn (now places) i)) at ≤ length (now records)) × Indexed (now places) (e .count) (now heads) (now links) ⌝ }
+    requires { ⌜ Counts e (now places) (now heads) (now links) × (i < e .count) × (12 * past (group (now image) base (placeIn (now places) i)) at ≤ length (now records)) ⌝ }
     ensures { λ r. ⌜ Puts (firstIn (now (places .entry)) (e .count) (e .total)) (group (now (image .entry)) base (placeIn (now (places .entry)) i)) at (now (records .entry)) (now (records .exit)) r ⌝ }
 {
     let p = address(places, i);
@@ -219,7 +255,7 @@ fn put_group(
             let n = next(places, i);
             put_word(places, heads, links, e, records, at, flow, word, p, n)
         }
-        Fetched::Outside => put_one(records, at, 7, 2, p),
+        Fetched::Outside => put_one(records, at, Record::Stop(2, p)),
     }
 }
 
@@ -234,7 +270,7 @@ pub fn put_groups(
     total: usize,
     records: &mut [u8],
 )
-    requires { ⌜ (16 * count ≤ length (now places)) × (count ≤ 8192) × (total ≡ needed (now image) base (placesIn (now places) count)) × (12 * total ≤ length (now records)) × Indexed (now places) count (now heads) (now links) ⌝ }
+    requires { ⌜ Tabled (now places) count (now heads) (now links) × (total ≡ needed (now image) base (placesIn (now places) count)) × (12 * total ≤ length (now records)) ⌝ }
     ensures { λ _. ⌜ numbersOf (now (records .exit)) (3 * total) ≡ recordsNumbers (recordsFrom (now (image .entry)) base (firstIn (now (places .entry)) count total) (placesIn (now (places .entry)) count)) ⌝ }
 {
     let e = Extent { count, total };

@@ -1,6 +1,7 @@
-use lib.Seq.{length-take-le}
-use native.Mathlib.Omega.{arith}
-use mathlib.Core.Path.{sym}
+use Rattle.cases.proofs.Verdicts.{ran-by}
+use Rattle.cases.proofs.Areas.{start-length}
+use Rattle.cases.specs.Kinds.{ranIn}
+use mathlib.Core.Path.{_∙_}
 use borrow.Author.Needs.{needs}
 use Rattle.cases.proofs.check_run.Statement.{statement}
 use Rattle.cases.proofs.check_run.Tie as tie
@@ -18,7 +19,7 @@ array-borrow-prefix-zeros : tie.Need-array-borrow-prefix-zeros
 array-borrow-prefix-zeros c = search needs
 
 slice-aggregate-area : tie.Need-slice-aggregate-area
-slice-aggregate-area c = sym (length-take-le _ _ (omega (arith, c .before .least .ensures, c .before .before .before .space .ensures)))
+slice-aggregate-area c = start-length _ 65552 0 (c .before .before .before .space .ensures) (c .before .least .ensures)
 
 enum-told : tie.Need-enum-told
 enum-told c = search needs
@@ -32,17 +33,26 @@ enum-told-2 c = search needs
 check-requires-2 : tie.Need-check-requires-2
 check-requires-2 c κs = search needs
 
+enum-told-3 : tie.Need-enum-told-3
+enum-told-3 c = search needs
+
 check-requires-3 : tie.Need-check-requires-3
 check-requires-3 c κs = search needs
 
 returns : tie.Need-returns
-returns c = search needs
+unfolding ranIn
+returns c = let b = c .before .before .before .before .before .before in
+    ran-by _ _ _ _ _ (b .before .space .ensures) (c .before .before .before .before .before .least .ensures) (b .data-size .ensures) (c .before .check .ensures ∙ rw (c .before .before .enum-told .given .1))
 
 returns-2 : tie.Need-returns-2
-returns-2 c = search needs
+unfolding ranIn
+returns-2 c = let b = c .before .before .before .before .before .before in
+    ran-by _ _ _ _ _ (b .before .space .ensures) (c .before .before .before .before .before .least .ensures) (b .data-size .ensures) (c .before .check2 .ensures ∙ rw (c .before .before .enum-told2 .given .1))
 
 returns-3 : tie.Need-returns-3
-returns-3 c = search needs
+unfolding ranIn
+returns-3 c = let b = c .before .before .before .before .before .before in
+    ran-by _ _ _ _ _ (b .before .space .ensures) (c .before .before .before .before .before .least .ensures) (b .data-size .ensures) (c .before .check3 .ensures ∙ rw (c .before .before .enum-told3 .given .1))
 
 pub check-run-spec : {M : Type 1} → statement M
 check-run-spec =
@@ -57,6 +67,7 @@ check-run-spec =
     check-requires
     enum-told-2
     check-requires-2
+    enum-told-3
     check-requires-3
     returns
     returns-2

@@ -31,7 +31,8 @@ put-answer-requires : tie.Need-put-answer-requires
 put-answer-requires c κs = search needs
 
 returns-2 : tie.Need-returns-2
-returns-2 c = listed-as (listing-short _ (c .before .before .before .before .before .before .before .before .before .before .if1 .left) (c .before .before .before .before .before .before .translate .ensures)) (c .put-answer .ensures)
+returns-2 c = let b = c .before .before .before .before .before .before in
+    listed-as (listing-short _ (b .before .before .before .before .if1 .left) (b .translate .ensures)) (c .put-answer .ensures)
 
 pub list-spec : {M : Type 1} → statement M
 list-spec =

@@ -1,6 +1,5 @@
 use Rattle.listing.proofs.Lines.{written-within}
 use Rattle.model.specs.Translation.{answerNumbers}
-use Rattle.model.specs.Cases.{given}
 use Rattle.translator.specs.Handing.{placesCounted, recordsCounted}
 use Rattle.listing.specs.Listing.{answerText}
 use native.Mathlib.Omega.{arith}
@@ -81,8 +80,9 @@ same-length c = search needs
 
 returns : tie.Need-returns
 unfolding answerText placesCounted recordsCounted
-returns c = let s = c .before .before .before .before .before .before .before .before .before .before in
-    let e = c .before .before .before .before .before .a .given .1 in
+returns c = let b = c .before .before .before .before .before in
+    let s = b .before .before .before .before .before in
+    let e = b .a .given .1 in
     let p = rw e at (s .pre .0) in
     let q = rw e at (s .pre .1) in
     let w = c .before .before .put-tables .ensures in

@@ -29,7 +29,8 @@ same-length c = search needs
 
 returns : tie.Need-returns
 unfolding tables
-returns c = let w = written-more (omega arith) (written-more (omega arith) (written-more (omega arith) (c .before .before .before .before .before .before .before .before .before .before .before .before .before .before .before .put-bytes .ensures) (c .before .before .before .before .before .before .before .before .before .before .before .put-places .ensures)) (c .before .before .before .before .before .before .put-bytes2 .ensures)) (c .before .before .put-records .ensures) in
+returns c = let b = c .before .before .before .before .before .before in
+    let w = written-more (omega arith) (written-more (omega arith) (written-more (omega arith) (b .before .before .before .before .before .before .before .before .before .put-bytes .ensures) (b .before .before .before .before .before .put-places .ensures)) (b .put-bytes2 .ensures)) (c .before .before .put-records .ensures) in
     written-within (omega (arith, w .fits)) w
 
 pub put-tables-spec : {M : Type 1} → statement M

@@ -1,4 +1,3 @@
-use Rattle.machine.specs.Ends.{left}
 use native.Mathlib.Omega.{arith}
 use mathlib.Core.Path.{refl}
 use Rattle.words.specs.Conditions.{bitOf}

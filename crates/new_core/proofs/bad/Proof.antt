@@ -1,5 +1,4 @@
 use Rattle.machine.specs.Ends.{endingOf, settle}
-use Rattle.model.specs.Records.{stop}
 use borrow.Author.Needs.{needs}
 use Rattle.new_core.proofs.bad.Statement.{statement}
 use Rattle.new_core.proofs.bad.Tie as tie

@@ -1,5 +1,4 @@
 use Rattle.machine.specs.Ends.{endingOf}
-use Rattle.model.specs.Cases.{given}
 use Rattle.model.specs.Run.{zeroed}
 use Rattle.model.specs.NewCore.{begunAt, newBegun}
 use Rattle.new_core.specs.Sought.{soughtOf}

@@ -1,5 +1,5 @@
-use Rattle.machine.specs.Ends.{left, settle}
-use Rattle.model.specs.NewCore.{holds, chooses}
+use Rattle.machine.specs.Ends.{settle}
+use Rattle.model.specs.NewCore.{chooses}
 use borrow.Author.Tests.{le-leb, lt-leb}
 use borrow.Author.Needs.{needs}
 use Rattle.new_core.proofs.choose.Statement.{statement}

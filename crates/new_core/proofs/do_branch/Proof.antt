@@ -1,4 +1,4 @@
-use Rattle.machine.specs.Ends.{left, settle}
+use Rattle.machine.specs.Ends.{settle}
 use Rattle.new_core.proofs.Records.{annuls, never-taken, may-be-taken}
 use borrow.Author.Needs.{needs}
 use Rattle.new_core.proofs.do_branch.Statement.{statement}

@@ -1,7 +1,6 @@
 use Rattle.machine.proofs.Effects.{effects-end, after-effect}
 use Rattle.machine.specs.Ends.{within}
 use Rattle.machine.specs.Effect.{machine, effectOf, Machine}
-use Rattle.model.specs.Cases.{given}
 use Rattle.model.specs.Places.{mayBeHeld}
 use Rattle.model.specs.OldCore.{transferOf}
 use Rattle.model.specs.NewCore.{following, fit, new}
@@ -61,10 +60,11 @@ same-length : tie.Need-same-length
 same-length c = search needs
 
 returns-5 : tie.Need-returns-5
-returns-5 c = let k = c .before .before .before .before .before .before .before .before .before .args in
+returns-5 c = let done = c .before .before .before in
+    let k = done .before .before .before .before .before .before .args in
     let m = machine (k .regs .now) (k .c .flags .nzvc) (k .area .now) in
-    rw (fits (k .i) (c .before .before .before .before .before .before .match .keys5)) (c .finish .ensures _ _
-    ∙ after-effect (λ (x : Machine). new x (k .c .at .0) (k .c .held .0)) (following (k .c .at .0) (k .c .held .0)) _ _ _ _ _ _ _ _ (effects-end (k .db) (k .i) m) (c .before .before .before .perform .ensures))
+    rw (fits (k .i) (done .before .before .before .match .keys5)) (c .finish .ensures _ _
+    ∙ after-effect (λ (x : Machine). new x (k .c .at .0) (k .c .held .0)) (following (k .c .at .0) (k .c .held .0)) _ _ _ _ _ _ _ _ (effects-end (k .db) (k .i) m) (done .perform .ensures))
 
 pub do-word-spec : {M : Type 1} → statement M
 do-word-spec =

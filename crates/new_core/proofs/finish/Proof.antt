@@ -1,5 +1,3 @@
-use Rattle.machine.specs.Ends.{left}
-use Rattle.model.specs.Records.{stop}
 use borrow.Author.Needs.{needs}
 use Rattle.new_core.proofs.finish.Statement.{statement}
 use Rattle.new_core.proofs.finish.Tie as tie

@@ -1,6 +1,4 @@
 use Rattle.machine.specs.Ends.{settle}
-use Rattle.model.specs.Cases.{given}
-use Rattle.model.specs.Records.{stop}
 use Rattle.model.specs.NewCore.{goes}
 use Rattle.new_core.specs.Sought.{soughtOf}
 use borrow.Author.Needs.{needs}

@@ -1,6 +1,4 @@
-use Rattle.machine.specs.Ends.{endingOf, left, settle}
-use Rattle.model.specs.Cases.{address, given}
-use Rattle.model.specs.Records.{put, stop}
+use Rattle.machine.specs.Ends.{endingOf, settle}
 use Rattle.model.specs.OldCore.{transferOf}
 use Rattle.model.specs.NewCore.{following, holds}
 use Rattle.new_core.proofs.Records.{not-held}
@@ -18,12 +16,12 @@ address-requires c κs = search needs
 put-requires : tie.Need-put-requires
 put-requires c κs = search needs
 
-add-requires : tie.Need-add-requires
-add-requires c κs = search needs
+next-record-requires : tie.Need-next-record-requires
+next-record-requires c κs = search needs
 
 returns : tie.Need-returns
 unfolding holds transferOf settle following endingOf
-returns c = λ a. rw (c .before .before .before .before .before .before .before .i .given .1, ← c .before .before .before .before .address .ensures, eq-eqb _ _ (c .before .before .before .if1 .taken), ← c .before .put .ensures, ← c .add .ensures)
+returns c = λ a. rw (c .before .before .before .before .before .before .before .i .given .1, ← c .before .before .before .before .address .ensures, eq-eqb _ _ (c .before .before .before .if1 .taken), ← c .before .put .ensures, ← c .next-record .ensures)
 
 stop-requires : tie.Need-stop-requires
 stop-requires c κs = search needs
@@ -45,7 +43,7 @@ hold-spec =
     enum-known-i
     address-requires
     put-requires
-    add-requires
+    next-record-requires
     returns
     stop-requires
     bad-requires

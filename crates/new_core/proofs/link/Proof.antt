@@ -1,4 +1,3 @@
-use Rattle.model.specs.Records.{put}
 use borrow.Author.Needs.{needs}
 use Rattle.new_core.proofs.link.Statement.{statement}
 use Rattle.new_core.proofs.link.Tie as tie

@@ -1,4 +1,4 @@
-use Rattle.machine.specs.Ends.{endingOf, left}
+use Rattle.machine.specs.Ends.{endingOf}
 use Rattle.model.specs.NewCore.{lost}
 use borrow.Author.Needs.{needs}
 use Rattle.new_core.proofs.lost_at.Statement.{statement}

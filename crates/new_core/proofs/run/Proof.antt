@@ -1,5 +1,4 @@
 use Rattle.model.proofs.Runs.{lent-back}
-use Rattle.model.specs.Cases.{given}
 use Rattle.model.specs.Run.{zeroed}
 use Rattle.model.specs.NewCore.{newNext}
 use Rattle.model.specs.NewState.{newState}
@@ -30,15 +29,16 @@ same-length c = search needs
 
 returns : tie.Need-returns
 unfolding zeroed
-returns c = let k = c .before .before .before .before .before .before .before .before .before .before .before .args in
+returns c = let ran = c .before .before in
+    let k = ran .before .before .before .before .before .before .before .before .before .args in
     lent-back (newNext (k .records .now) (k .places .now) (k .base) (k .size) (k .db)) (k .count) (newState (zeroed (k .core .registers)) (k .core .control))
-    (newState (c .before .before .steps .last .1 .1 .1 .1 .1 .0) (c .before .before .steps .result))
+    (newState (ran .steps .last .1 .1 .1 .1 .1 .0) (ran .steps .result))
     (k .area .now)
-    (c .before .before .steps .last .1 .1 .1 .1 .1 .1 .1 .0)
+    (ran .steps .last .1 .1 .1 .1 .1 .1 .1 .0)
     _
-    (c .before .before .before .before .before .data-length .ensures)
+    (ran .before .before .before .data-length .ensures)
     (c .before .area .given .0)
-    (c .before .before .steps .ensures)
+    (ran .steps .ensures)
 
 pub run-spec : {M : Type 1} → statement M
 run-spec =

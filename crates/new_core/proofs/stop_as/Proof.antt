@@ -1,5 +1,4 @@
 use Rattle.machine.specs.Ends.{endingOf, settle}
-use Rattle.model.specs.Records.{stop}
 use Rattle.model.specs.NewCore.{stops}
 use borrow.Author.Tests.{ne-eqb}
 use borrow.Author.Needs.{needs}

@@ -9,12 +9,12 @@ use Rattle.old_core.proofs.begin.Tie as tie
 array-write-regs : tie.Need-array-write-regs
 array-write-regs c = search needs
 
-add-requires : tie.Need-add-requires
-add-requires c κs = search needs
+further-requires : tie.Need-further-requires
+further-requires c κs = search needs
 
 returns : tie.Need-returns
 unfolding oldBegun zeroed endingOf isSet
-returns c = λ a. rw (c .add .ensures)
+returns c = λ a. rw (c .further .ensures)
 
 pub begin-spec : {M : Type 1} → statement M
-begin-spec = tie.close (tie.spec array-write-regs add-requires returns)
+begin-spec = tie.close (tie.spec array-write-regs further-requires returns)

@@ -1,8 +1,5 @@
-use Rattle.model.specs.NewCore.{holds}
 use Rattle.old_core.proofs.Words.{branch-always, branch-taken, branch-fails}
 use mathlib.Core.Path.{sym, _∙_}
-use Rattle.machine.specs.Ends.{left}
-use Rattle.model.specs.OldCore.{target}
 use borrow.Author.Tests.{eq-eqb, ne-eqb}
 use borrow.Author.Needs.{needs}
 use Rattle.old_core.proofs.branch.Statement.{statement}
@@ -31,8 +28,8 @@ returns-2 : tie.Need-returns-2
 returns-2 c = λ rs a. c .advance2 .ensures rs a
     ∙ rw (c .before .before .target .ensures) (branch-taken _ _ _ _ _ _ (sym (c .before .before .before .before .holds .ensures) ∙ c .before .before .before .if1 .taken) (ne-eqb _ _ (c .before .if2 .left)))
 
-add-requires : tie.Need-add-requires
-add-requires c κs = search needs
+further-requires : tie.Need-further-requires
+further-requires c κs = search needs
 
 bit-requires-2 : tie.Need-bit-requires-2
 bit-requires-2 c κs = search needs
@@ -42,7 +39,7 @@ advance-requires-3 c κs = search needs
 
 returns-3 : tie.Need-returns-3
 returns-3 c = λ rs a. c .advance3 .ensures rs a
-    ∙ branch-fails _ _ _ _ _ _ _ _ (sym (c .before .before .before .before .holds .ensures) ∙ c .before .before .before .if1 .left) (c .before .bit2 .ensures .0) (c .before .before .add .ensures)
+    ∙ branch-fails _ _ _ _ _ _ _ _ (sym (c .before .before .before .before .holds .ensures) ∙ c .before .before .before .if1 .left) (c .before .bit2 .ensures .0) (c .before .before .further .ensures)
 
 pub branch-spec : {M : Type 1} → statement M
 branch-spec =
@@ -55,7 +52,7 @@ branch-spec =
     returns
     advance-requires-2
     returns-2
-    add-requires
+    further-requires
     bit-requires-2
     advance-requires-3
     returns-3)

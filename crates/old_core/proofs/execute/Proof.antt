@@ -1,11 +1,9 @@
-use Rattle.model.specs.Cases.{given}
-use Rattle.model.specs.Records.{put, stop}
 use Rattle.machine.proofs.Effects.{effects-end, after-effect}
 use Rattle.machine.specs.Effect.{machine, Machine}
 use Rattle.old_core.proofs.Words.{no-transfer}
 use mathlib.Core.Path.{_∙_, sym, ap}
 use Rattle.machine.specs.Ends.{endingOf, settle}
-use Rattle.model.specs.OldCore.{transferOf, target, executes, follows, old}
+use Rattle.model.specs.OldCore.{transferOf, executes, follows, old}
 use Rattle.model.specs.OldState.{isSet, oldOf}
 use borrow.Author.Needs.{needs}
 use Rattle.old_core.proofs.execute.Statement.{statement}
@@ -67,11 +65,12 @@ same-length : tie.Need-same-length
 same-length c = search needs
 
 returns-5 : tie.Need-returns-5
-returns-5 c = let k = c .before .before .before .before .before .before .before .before .before .before .args in
+returns-5 c = let done = c .before .before .before in
+    let k = done .before .before .before .before .before .before .before .args in
     let m = machine (k .regs .now) (k .c .flags .nzvc) (k .area .now) in
     c .finish .ensures _ _
-    ∙ after-effect (λ (x : Machine). old x (k .c .pc .0) (k .c .npc .0) (isSet (k .c .annul))) (follows (k .c .npc .0)) _ _ _ _ _ _ _ _ (effects-end (k .db) (k .i) m) (c .before .before .before .perform .ensures)
-    ∙ ap (settle (oldOf (k .regs .now) (k .c) (k .area .now))) (sym (no-transfer (k .db) (k .i) m (k .c .pc .0) (k .c .npc .0) (c .before .before .before .before .before .before .match .keys5)))
+    ∙ after-effect (λ (x : Machine). old x (k .c .pc .0) (k .c .npc .0) (isSet (k .c .annul))) (follows (k .c .npc .0)) _ _ _ _ _ _ _ _ (effects-end (k .db) (k .i) m) (done .perform .ensures)
+    ∙ ap (settle (oldOf (k .regs .now) (k .c) (k .area .now))) (sym (no-transfer (k .db) (k .i) m (k .c .pc .0) (k .c .npc .0) (done .before .before .before .match .keys5)))
 
 pub execute-spec : {M : Type 1} → statement M
 execute-spec =

@@ -1,5 +1,4 @@
-use Rattle.model.specs.Records.{stop}
-use Rattle.machine.specs.Ends.{endingOf, left, settle}
+use Rattle.machine.specs.Ends.{endingOf, settle}
 use Rattle.model.specs.OldCore.{inImage, wordIn, fetches}
 use borrow.Author.Tests.{lt-leb, eq-eqb, ne-eqb, le-leb}
 use borrow.Author.Needs.{needs}
@@ -29,7 +28,8 @@ same-length c = search needs
 
 returns : tie.Need-returns
 unfolding fetches wordIn inImage
-returns c = rw (eq-eqb _ _ (c .before .before .before .before .before .before .before .before .before .if1 .taken), ← c .before .before .before .before .before .before .before .before .subtract .ensures, le-leb _ _ (c .before .before .before .before .before .before .before .if2 .taken), ← c .before .before .before .before .before .before .read-number .ensures, ← c .before .before .before .before .before .read-instruction .ensures) (c .before .before .execute .ensures)
+returns c = let read = c .before .before .before .before .before in
+    rw (eq-eqb _ _ (read .before .before .before .before .if1 .taken), ← read .before .before .before .subtract .ensures, le-leb _ _ (read .before .before .if2 .taken), ← read .before .read-number .ensures, ← read .read-instruction .ensures) (c .before .before .execute .ensures)
 
 stop-requires : tie.Need-stop-requires
 stop-requires c κs = search needs

@@ -1,5 +1,3 @@
-use Rattle.model.specs.Records.{stop}
-use Rattle.machine.specs.Ends.{left}
 use borrow.Author.Needs.{needs}
 use Rattle.old_core.proofs.finish.Statement.{statement}
 use Rattle.old_core.proofs.finish.Tie as tie

@@ -1,6 +1,4 @@
-use Rattle.model.specs.Records.{put, stop}
-use Rattle.model.specs.Cases.{address}
-use Rattle.machine.specs.Ends.{endingOf, left, settle}
+use Rattle.machine.specs.Ends.{endingOf, settle}
 use Rattle.model.specs.OldCore.{jumps}
 use Rattle.model.specs.OldState.{isSet}
 use borrow.Author.Tests.{eq-eqb, ne-eqb}

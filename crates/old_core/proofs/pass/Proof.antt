@@ -1,6 +1,6 @@
 use Rattle.old_core.proofs.Words.{annulled, not-annulled, is-set, is-clear}
 use mathlib.Core.Path.{sym, ap, _∙_}
-use Rattle.machine.specs.Ends.{settle, left}
+use Rattle.machine.specs.Ends.{settle}
 use borrow.Author.Needs.{needs}
 use Rattle.old_core.proofs.pass.Statement.{statement}
 use Rattle.old_core.proofs.pass.Tie as tie

@@ -1,4 +1,3 @@
-use Rattle.model.specs.Cases.{given}
 use Rattle.model.specs.Run.{zeroed}
 use Rattle.model.specs.OldCore.{oldNext}
 use Rattle.model.proofs.Runs.{lent-back}
@@ -30,15 +29,16 @@ same-length c = search needs
 
 returns : tie.Need-returns
 unfolding zeroed
-returns c = let k = c .before .before .before .before .before .before .before .before .before .before .args in
+returns c = let ran = c .before .before in
+    let k = ran .before .before .before .before .before .before .before .before .args in
     lent-back (oldNext (k .image .now) (k .base) (k .db)) (k .count) (oldState (zeroed (k .core .registers)) (k .core .control))
-    (oldState (c .before .before .steps .last .1 .1 .1 .0) (c .before .before .steps .result))
+    (oldState (ran .steps .last .1 .1 .1 .0) (ran .steps .result))
     (k .area .now)
-    (c .before .before .steps .last .1 .1 .1 .1 .1 .0)
+    (ran .steps .last .1 .1 .1 .1 .1 .0)
     _
-    (c .before .before .before .before .before .data-length .ensures)
+    (ran .before .before .before .data-length .ensures)
     (c .before .area .given .0)
-    (c .before .before .steps .ensures)
+    (ran .steps .ensures)
 
 pub run-spec : {M : Type 1} → statement M
 run-spec =

@@ -1,14 +1,10 @@
 use Rattle.numbers.specs.Number.{numbersOf}
-use Rattle.machine.specs.Ends.{state}
 use Rattle.model.specs.StateBytes.{machineIn, oldIn}
 use mathlib.Core.Path.{_≡_, sym, ap, _∙_}
 use native.Mathlib.Omega.{arith}
 use borrow.Author.Needs.{needs}
 use Rattle.pijorrel_old.proofs.decode.Statement.{statement}
 use Rattle.pijorrel_old.proofs.decode.Tie as tie
-
-new-requires : tie.Need-new-requires
-new-requires c κs = search needs
 
 slice-aggregate-read-numbers : tie.Need-slice-aggregate-read-numbers
 slice-aggregate-read-numbers c = search needs
@@ -40,15 +36,17 @@ end-from-requires c κs = search needs
 returns : tie.Need-returns
 unfolding oldIn machineIn
 returns c = λ a.
-    let n = slice-aggregate-read-numbers (c .before .before .before .before .before .before .before .before .before .before .before .before .before .before .before) in
-    let regs : c .before .before .before .before .before .before .before .before .before .before .before .before .before .before .read-numbers .last .1 .0 ≡ numbersOf (c .before .before .before .before .before .before .before .before .before .before .before .before .before .before .before .before .before .before .before .args .state .now) 32 = c .before .before .before .before .before .before .before .before .before .before .before .before .before .before .read-numbers .ensures ∙ ap (numbersOf (c .before .before .before .before .before .before .before .before .before .before .before .before .before .before .before .before .before .before .before .args .state .now)) (sym n) in
-    rw (regs, c .end-from .ensures, c .before .read-number6 .ensures, c .before .before .before .read-number5 .ensures, c .before .before .before .before .before .read-number4 .ensures, c .before .before .before .before .before .before .before .read-number3 .ensures, c .before .before .before .before .before .before .before .before .before .read-number2 .ensures, c .before .before .before .before .before .before .before .before .before .before .before .read-number .ensures)
+    let counted = c .before .before .before .before .before .before .before .before .before in
+    let whole = counted .before .before .before .before .before .before in
+    let bytes = whole .before .before .args .state .now in
+    let read = counted .before .before .before .before .before .read-numbers in
+    let regs : read .last .1 .0 ≡ numbersOf bytes 32 = read .ensures ∙ ap (numbersOf bytes) (sym (slice-aggregate-read-numbers whole)) in
+    rw (regs, c .end-from .ensures, c .before .read-number6 .ensures, c .before .before .before .read-number5 .ensures, c .before .before .before .before .before .read-number4 .ensures, c .before .before .before .before .before .before .before .read-number3 .ensures, counted .read-number2 .ensures, counted .before .before .read-number .ensures)
 
 pub decode-spec : {M : Type 1} → statement M
 decode-spec =
     tie.close
     (tie.spec
-    new-requires
     slice-aggregate-read-numbers
     read-numbers-requires
     read-number-requires

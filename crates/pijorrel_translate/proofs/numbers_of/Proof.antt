@@ -1,5 +1,4 @@
-use Rattle.model.specs.Translation.{answerNumbers, refusal}
-use Rattle.model.specs.Cases.{given}
+use Rattle.model.specs.Translation.{answerNumbers}
 use borrow.Author.Needs.{needs}
 use Rattle.pijorrel_translate.proofs.numbers_of.Statement.{statement}
 use Rattle.pijorrel_translate.proofs.numbers_of.Tie as tie

@@ -1,7 +1,6 @@
 use Rattle.model.specs.Translation.{placeRoom}
-use Rattle.model.specs.Cases.{given}
 use Rattle.places.proofs.Chains.{index-none}
-use Rattle.places.proofs.Walking.{within-places, indexed-places}
+use Rattle.places.proofs.Walking.{ready-places, ready-tabled}
 use Rattle.translator.proofs.Checking.{good-count, tr-length, tr-base, tr-count, tr-entry, tr-walk}
 use Rattle.translator.proofs.Handed.{attempted-by, ends-places, refused-as, ends-forbidden, ends-full}
 use Rattle.translator.specs.Handing.{placesCounted, recordsCounted}
@@ -41,18 +40,13 @@ place-room-requires c κs = search needs
 
 find-places-requires : tie.Need-find-places-requires
 unfolding placeRoom
-find-places-requires c κs = let r = c .before .before .before .place-room .ensures in (omega arith, omega (arith, r), omega (arith, r), index-none _)
+find-places-requires c κs = let r = c .before .before .before .place-room .ensures in (omega arith, record { within = omega arith; fits = omega (arith, r); few = omega (arith, r); index = index-none _ })
 
 enum-known-w : tie.Need-enum-known-w
 enum-known-w c = search needs
 
 finish-requires : tie.Need-finish-requires
-unfolding placeRoom
-finish-requires c κs = let e = c .before .before .before .before .before .w .given .1 in
-    let g = c .before .before .before .before .before .before .before .before .before .find-places .ensures in
-    let r = c .before .before .before .before .before .before .before .before .before .before .before .before .before .place-room .ensures in
-    let n = within-places e (g .fits) in
-    (omega (arith, n, r), omega (arith, n, r), indexed-places e (g .index))
+finish-requires c κs = ready-tabled (ready-places (c .before .before .before .before .before .w .given .1) (c .before .before .before .before .before .before .before .before .before .find-places .ensures .ready))
 
 enum-known-w-2 : tie.Need-enum-known-w-2
 enum-known-w-2 c = search needs
@@ -67,25 +61,33 @@ same-length-2 : tie.Need-same-length-2
 same-length-2 c = search needs
 
 returns-5 : tie.Need-returns-5
-returns-5 c = attempted-by
-    (tr-walk _ _ _ _ _ (c .before .before .before .before .before .before .before .before .before .before .before .before .before .before .before .before .before .before .before .before .before .before .before .before .before .bad-length .ensures) (c .before .before .before .before .before .before .before .before .before .before .before .before .before .before .before .before .before .before .before .before .before .before .before .before .if1 .left) (c .before .before .before .before .before .before .before .before .before .before .before .before .before .before .before .before .before .before .before .before .before .before .before .if2 .left) (c .before .before .before .before .before .before .before .before .before .before .before .before .before .before .before .before .before .before .before .before .before .before .bad-count .ensures) (c .before .before .before .before .before .before .before .before .before .before .before .before .before .before .before .before .before .before .before .before .before .if3 .left) (c .before .before .before .before .before .before .before .before .before .before .before .before .before .before .before .before .before .before .before .before .bad-position .ensures) _ (c .before .before .before .before .before .before .before .before .before .before .before .before .before .before .before .before .before .before .before .if4 .left) (c .before .before .before .before .before .before .before .before .before .before .before .before .before .before .before .before .before .before .place-room .ensures) (c .before .before .before .before .before .before .before .before .before .before .before .before .before .before .find-places .ensures .reads)
-    ∙ ends-places _ _ _ _ _ _ (omega arith) (c .before .before .before .before .before .before .before .before .before .before .w .given .1))
-    (c .before .before .before .before .finish .ensures _ _)
+returns-5 c = let b = c .before .before .before .before in
+    let d = b .before .before .before .before .before .before in
+    let f = d .before .before .before .before .before .before .before .before in
+    let t = f .before .before .before in
+    attempted-by
+    (tr-walk _ _ _ _ _ (t .before .before .before .before .bad-length .ensures) (t .before .before .before .if1 .left) (t .before .before .if2 .left) (t .before .bad-count .ensures) (t .if3 .left) (f .before .before .bad-position .ensures) _ (f .before .if4 .left) (f .place-room .ensures) (d .before .before .before .before .find-places .ensures .reads)
+    ∙ ends-places _ _ _ _ _ _ (omega arith) (d .w .given .1))
+    (b .finish .ensures _ _)
 
 same-length-3 : tie.Need-same-length-3
 same-length-3 c = search needs
 
 returns-6 : tie.Need-returns-6
-returns-6 c = attempted-by
-    (tr-walk _ _ _ _ _ (c .before .before .before .before .before .before .before .before .before .before .before .before .before .before .before .before .bad-length .ensures) (c .before .before .before .before .before .before .before .before .before .before .before .before .before .before .before .if1 .left) (c .before .before .before .before .before .before .before .before .before .before .before .before .before .before .if2 .left) (c .before .before .before .before .before .before .before .before .before .before .before .before .before .bad-count .ensures) (c .before .before .before .before .before .before .before .before .before .before .before .before .if3 .left) (c .before .before .before .before .before .before .before .before .before .before .before .bad-position .ensures) _ (c .before .before .before .before .before .before .before .before .before .before .if4 .left) (c .before .before .before .before .before .before .before .before .before .place-room .ensures) (c .before .before .before .before .before .find-places .ensures .reads))
+returns-6 c = let b = c .before .before .before .before .before .before .before .before .before in
+    let d = b .before .before .before in
+    attempted-by
+    (tr-walk _ _ _ _ _ (d .before .before .before .before .bad-length .ensures) (d .before .before .before .if1 .left) (d .before .before .if2 .left) (d .before .bad-count .ensures) (d .if3 .left) (b .before .before .bad-position .ensures) _ (b .before .if4 .left) (b .place-room .ensures) (c .before .before .before .before .before .find-places .ensures .reads))
     (ends-forbidden _ _ _ _ _ _ _ _ (omega arith) refl (c .before .w2 .given .1) _)
 
 same-length-4 : tie.Need-same-length-4
 same-length-4 c = search needs
 
 returns-7 : tie.Need-returns-7
-returns-7 c = attempted-by
-    (tr-walk _ _ _ _ _ (c .before .before .before .before .before .before .before .before .before .before .before .before .before .before .before .before .bad-length .ensures) (c .before .before .before .before .before .before .before .before .before .before .before .before .before .before .before .if1 .left) (c .before .before .before .before .before .before .before .before .before .before .before .before .before .before .if2 .left) (c .before .before .before .before .before .before .before .before .before .before .before .before .before .bad-count .ensures) (c .before .before .before .before .before .before .before .before .before .before .before .before .if3 .left) (c .before .before .before .before .before .before .before .before .before .before .before .bad-position .ensures) _ (c .before .before .before .before .before .before .before .before .before .before .if4 .left) (c .before .before .before .before .before .before .before .before .before .place-room .ensures) (c .before .before .before .before .before .find-places .ensures .reads))
+returns-7 c = let b = c .before .before .before .before .before .before .before .before .before in
+    let d = b .before .before .before in
+    attempted-by
+    (tr-walk _ _ _ _ _ (d .before .before .before .before .bad-length .ensures) (d .before .before .before .if1 .left) (d .before .before .if2 .left) (d .before .bad-count .ensures) (d .if3 .left) (b .before .before .bad-position .ensures) _ (b .before .if4 .left) (b .place-room .ensures) (c .before .before .before .before .before .find-places .ensures .reads))
     (ends-full _ _ _ _ _ _ _ _ (omega arith) refl (c .before .w3 .given .1) _)
 
 pub attempt-spec : {M : Type 1} → statement M

@@ -10,12 +10,12 @@ use Rattle.translator.proofs.finish.Statement.{statement}
 use Rattle.translator.proofs.finish.Tie as tie
 
 lay-out-requires : tie.Need-lay-out-requires
-lay-out-requires c κs = let s = c .before .before .before .before in (s .pre .0, s .pre .1, s .pre .2 .shows)
+lay-out-requires c κs = let s = c .before .before .before .before in (s .pre .fits, s .pre .few, s .pre .index .shows)
 
 cast-t14 : tie.Need-cast-t14
 cast-t14 c = let s = c .before .before .before .before .before .before .before .before in
     let ps = placesIn (s .args .places .now) (s .args .count) in
-    omega (arith, c .before .before .before .lay-out .ensures .0 .all, needed-le (s .args .image .now) (s .args .base) ps, length-places (s .args .places .now) (s .args .count), s .pre .1)
+    omega (arith, c .before .before .before .lay-out .ensures .0 .all, needed-le (s .args .image .now) (s .args .base) ps, length-places (s .args .places .now) (s .args .count), s .pre .few)
 
 same-length : tie.Need-same-length
 same-length c = search needs
@@ -24,17 +24,18 @@ returns : tie.Need-returns
 returns c = λ es position. finish-short _ _ _ _ _ _ _ _ (omega arith) refl _ _ _ (c .before .before .before .lay-out .ensures .0) (c .if1 .taken)
 
 put-groups-requires : tie.Need-put-groups-requires
-put-groups-requires c κs = let s = c .before .before .before .before .before .before .before .before .before .before in
-    let d = c .before .before .before .before .before .lay-out .ensures in
-    (omega arith, s .pre .1, rw (d .0 .kept) (d .0 .all), omega arith, index-same _ _ _ _ _ (d .1) (s .pre .2))
+put-groups-requires c κs = let b = c .before .before .before .before .before in
+    let d = b .lay-out .ensures in
+    (record { fits = omega arith; few = b .before .before .before .before .before .pre .few; index = index-same _ _ _ _ _ (d .1) (b .before .before .before .before .before .pre .index) }, rw (d .0 .kept) (d .0 .all), omega arith)
 
 cast-t20 : tie.Need-cast-t20
 cast-t20 c = search needs
 
 cast-t21 : tie.Need-cast-t21
-cast-t21 c = let s = c .before .before .before .before .before .before .before .before .before .before .before .before .before in
+cast-t21 c = let b = c .before .before .before .before .before .before .before .before in
+    let s = b .before .before .before .before .before in
     let ps = placesIn (s .args .places .now) (s .args .count) in
-    omega (arith, c .before .before .before .before .before .before .before .before .lay-out .ensures .0 .all, needed-le (s .args .image .now) (s .args .base) ps, length-places (s .args .places .now) (s .args .count), s .pre .1)
+    omega (arith, b .lay-out .ensures .0 .all, needed-le (s .args .image .now) (s .args .base) ps, length-places (s .args .places .now) (s .args .count), s .pre .few)
 
 same-length-2 : tie.Need-same-length-2
 same-length-2 c = search needs

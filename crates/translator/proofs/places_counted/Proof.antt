@@ -1,4 +1,3 @@
-use Rattle.model.specs.Cases.{given}
 use Rattle.translator.proofs.Handed.{counts-nothing}
 use Rattle.translator.specs.Handing.{placesCounted}
 use mathlib.Core.Path.{sym}

@@ -1,6 +1,5 @@
 use native.Mathlib.Omega.{arith}
 use Rattle.translator.proofs.Checking.{bad-at}
-use Rattle.model.specs.Cases.{given}
 use Rattle.model.specs.Records.{numbersIn}
 use Rattle.translator.proofs.Handed.{handed-back}
 use Rattle.translator.specs.Handing.{badFrom}
@@ -37,17 +36,20 @@ same-length-2 : tie.Need-same-length-2
 same-length-2 c = search needs
 
 returns : tie.Need-returns
-returns c = let s = c .before .before .before .before .before .before .before .before .before .before .before .before .before .before .before .before .before .before .before .before .before in
-    rw (c .before .before .before .before .before .before .before .clear-from .ensures, c .before .before .clear-from2 .ensures)
+returns c = let b = c .before .before .before .before .before .before .before in
+    let d = b .before .before .before in
+    let f = d .before .before .before .before in
+    let s = f .before .before .before .before .before .before .before in
+    rw (b .clear-from .ensures, c .before .before .clear-from2 .ensures)
     (record {
       back =
           record {
             position = badFrom (s .args .base) (length (s .args .image .now)) 0 (numbersIn (s .args .entries .now));
             bad = bad-at _ _ _;
-            all = handed-back _ _ _ _ _ _ (c .before .before .before .before .before .before .before .before .before .before .before .before .before .before .attempt .ensures) (c .before .before .before .before .before .before .before .before .places-counted .ensures) (c .before .before .before .records-counted .ensures) (λ i. (c .before .before .before .before .before .before .before .before .before .before .before .before .slice-known3 .given i) .fits) (λ i. (c .before .before .before .before .before .before .before .before .before .before .slice-known4 .given i) .fits);
+            all = handed-back _ _ _ _ _ _ (f .attempt .ensures) (b .before .places-counted .ensures) (c .before .before .before .records-counted .ensures) (λ i. (d .before .before .slice-known3 .given i) .fits) (λ i. (d .slice-known4 .given i) .fits);
           };
-      place-room = omega (arith, c .before .before .before .before .before .before .before .before .before .before .before .before .before .before .attempt .ensures .place-room);
-      record-room = omega (arith, c .before .before .before .before .before .before .before .before .before .before .before .before .before .before .attempt .ensures .record-room);
+      place-room = omega (arith, f .attempt .ensures .place-room);
+      record-room = omega (arith, f .attempt .ensures .record-room);
     })
 
 pub translate-spec : {M : Type 1} → statement M

@@ -2,6 +2,7 @@ use borrow.Author.Needs.{needs}
 use borrow.Author.Tests.{le-leb, lt-leb}
 use native.Mathlib.Omega.{arith}
 use lib.ListN.{length}
+use Rattle.cases.specs.Files.{numberIn}
 use Prim.Native.Nat.{_+_}
 use Rattle.cases.proofs.file.number.Statement.{statement}
 use Rattle.cases.proofs.file.number.Tie as tie
@@ -13,14 +14,17 @@ read-number-requires : tie.Need-read-number-requires
 read-number-requires c κs = search needs
 
 returns : tie.Need-returns
+unfolding numberIn
 returns c = let k = c .before .before .before .before .args in
     rw (le-leb (k .at + 4) (length (k .bytes .now)) (omega arith)) (c .read-number .ensures)
 
 returns-2 : tie.Need-returns-2
+unfolding numberIn
 returns-2 c = let k = c .before .before .before .args in
     rw (lt-leb (k .at + 4) (length (k .bytes .now)) (omega arith))
 
 returns-3 : tie.Need-returns-3
+unfolding numberIn
 returns-3 c = let k = c .before .before .args in
     rw (lt-leb (k .at + 4) (length (k .bytes .now)) (omega arith))
 

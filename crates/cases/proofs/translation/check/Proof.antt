@@ -1,6 +1,6 @@
-use lib.Seq.{length-take-le}
-use native.Mathlib.Omega.{arith}
-use mathlib.Core.Path.{sym}
+use Rattle.cases.proofs.Areas.{start-length}
+use Rattle.cases.proofs.Translations.{found-in}
+use mathlib.Core.Path.{_∙_, sym}
 use borrow.Author.Needs.{needs}
 use Rattle.cases.proofs.translation.check.Statement.{statement}
 use Rattle.cases.proofs.translation.check.Tie as tie
@@ -39,21 +39,22 @@ array-borrow-prefix-table : tie.Need-array-borrow-prefix-table
 array-borrow-prefix-table c = search needs
 
 slice-aggregate-rows : tie.Need-slice-aggregate-rows
-slice-aggregate-rows c = let b = c .before .before .before in
-    sym (length-take-le _ _ (omega (arith, b .least .ensures, b .before .before .before .used-table .ensures)))
+slice-aggregate-rows c = let b = c .before .before .before .before .before .before in
+    start-length _ 131104 165 (b .used-table .ensures) (c .before .before .before .least .ensures)
 
 array-borrow-prefix-list : tie.Need-array-borrow-prefix-list
 array-borrow-prefix-list c = search needs
 
 slice-aggregate-bulk : tie.Need-slice-aggregate-bulk
-slice-aggregate-bulk c = let b = c .before .before in
-    sym (length-take-le _ _ (omega (arith, b .least2 .ensures, b .before .before .before .before .used-list .ensures)))
+slice-aggregate-bulk c = let b = c .before .before .before .before .before .before in
+    start-length _ 196608 90 (b .used-list .ensures) (c .before .before .least2 .ensures)
 
 check-in-requires : tie.Need-check-in-requires
 check-in-requires c κs = search needs
 
 returns : tie.Need-returns
-returns c = search needs
+returns c = let b = c .before .before .before .before .before .before in
+    found-in _ _ _ _ (sym (start-length _ 131104 165 (b .before .before .before .before .used-table .ensures) (b .before .least .ensures)) ∙ b .before .least .ensures) (b .before .before .number .ensures) (sym (start-length _ 196608 90 (b .before .before .before .used-list .ensures) (c .before .before .before .before .before .least2 .ensures)) ∙ c .before .before .before .before .before .least2 .ensures) (b .number2 .ensures) (c .before .before .check-in .ensures)
 
 pub check-spec : {M : Type 1} → statement M
 check-spec =

@@ -1,6 +1,6 @@
 use Rattle.listing.proofs.Lines.{line-goes, line-end}
 use Rattle.listing.proofs.Writing.{written-end}
-use Rattle.listing.specs.Text.{separator, lineOf, inserted}
+use Rattle.listing.specs.Text.{lineOf, inserted}
 use borrow.Author.Needs.{needs}
 use lib.ListN.{length, drop, length-set}
 use native.Mathlib.Omega.{arith}
@@ -45,11 +45,12 @@ loop-less : tie.Need-loop-less Inv-loop μ-loop
 loop-less c = search needs
 
 loop-again : tie.Need-loop-again Inv-loop μ-loop
-loop-again c = let b = c .before .before .before .before .before .before .before .loop in
-    let s = c .before .before .before .before .before .before .before .before .before .before in
+loop-again c = let d = c .before .before .before .before .before .before in
+    let b = d .before .loop in
+    let s = d .before .before .before .before in
     let w = c .before .before .before .put-number .ensures in
     let o : b .k ≤ length (b .out) = omega arith in
-    let turn = line-goes (s .args .list .now) (b .j) (c .before .before .before .before .before .before .loop-test .taken) o (omega (arith, w .end, w .fits)) w (c .separator .ensures) (b .inv .3) (b .inv .4) in
+    let turn = line-goes (s .args .list .now) (b .j) (d .loop-test .taken) o (omega (arith, w .end, w .fits)) w (c .separator .ensures) (b .inv .3) (b .inv .4) in
     (omega arith, simp length-set (omega arith), omega (arith, w .end, w .fits), turn .0, turn .1)
 
 same-length : tie.Need-same-length Inv-loop μ-loop

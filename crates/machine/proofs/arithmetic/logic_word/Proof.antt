@@ -1,6 +1,5 @@
 use Rattle.words.specs.Conditions.{bitOf, nzvcOf}
 use Rattle.machine.specs.Arithmetic.{logicOf}
-use Rattle.machine.specs.Ends.{left}
 use borrow.Author.Needs.{needs}
 use Rattle.machine.proofs.arithmetic.logic_word.Statement.{statement}
 use Rattle.machine.proofs.arithmetic.logic_word.Tie as tie

@@ -1,5 +1,4 @@
 use Rattle.machine.specs.Arithmetic.{shiftedSigned}
-use Rattle.machine.specs.Ends.{left}
 use borrow.Author.Needs.{needs}
 use Rattle.machine.proofs.arithmetic.sra.Statement.{statement}
 use Rattle.machine.proofs.arithmetic.sra.Tie as tie

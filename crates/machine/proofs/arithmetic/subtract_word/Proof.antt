@@ -1,5 +1,4 @@
 use Rattle.machine.specs.Arithmetic.{differenceOf}
-use Rattle.machine.specs.Ends.{left}
 use borrow.Author.Needs.{needs}
 use Rattle.machine.proofs.arithmetic.subtract_word.Statement.{statement}
 use Rattle.machine.proofs.arithmetic.subtract_word.Tie as tie

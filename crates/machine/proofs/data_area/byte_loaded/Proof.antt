@@ -1,4 +1,3 @@
-use Rattle.machine.specs.Ends.{left}
 use Rattle.numbers.proofs.Number.{extend-by-sum}
 use Rattle.numbers.specs.Number.{signed}
 use native.Mathlib.Omega.{arith}

@@ -1,4 +1,4 @@
-use Rattle.machine.specs.Ends.{endingOf, left, settle}
+use Rattle.machine.specs.Ends.{endingOf, settle}
 use Rattle.machine.specs.DataArea.{sizeOf, putValue, storeOf}
 use borrow.Author.Tests.{lt-leb, le-leb}
 use native.Mathlib.Nat.{mod-one}

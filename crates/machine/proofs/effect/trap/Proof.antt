@@ -1,4 +1,4 @@
-use Rattle.machine.specs.Ends.{endingOf, left, settle}
+use Rattle.machine.specs.Ends.{endingOf, settle}
 use Rattle.machine.specs.Effect.{trapOf}
 use borrow.Author.Needs.{needs}
 use Rattle.machine.proofs.effect.trap.Statement.{statement}

@@ -8,10 +8,10 @@ hash-requires : tie.Need-hash-requires
 hash-requires c κs = search needs
 
 mul-links : tie.Need-mul-links
-mul-links c = omega (arith, c .hash .ensures, hash-lt (c .before .args .p) (c .before .args .n))
+mul-links c = omega (arith, c .hash .ensures, hash-lt (c .before .args .p .0) (c .before .args .n .0))
 
 element-copy-out-links : tie.Need-element-copy-out-links
-element-copy-out-links c = omega (arith, c .hash .ensures, hash-lt (c .before .args .p) (c .before .args .n))
+element-copy-out-links c = omega (arith, c .hash .ensures, hash-lt (c .before .args .p .0) (c .before .args .n .0))
 
 mul-links-2 : tie.Need-mul-links-2
 mul-links-2 c = search needs
@@ -26,10 +26,10 @@ cast-heads : tie.Need-cast-heads
 cast-heads c = search needs
 
 mul-heads : tie.Need-mul-heads
-mul-heads c = omega (arith, c .before .hash .ensures, hash-lt (c .before .before .args .p) (c .before .before .args .n))
+mul-heads c = omega (arith, c .before .hash .ensures, hash-lt (c .before .before .args .p .0) (c .before .before .args .n .0))
 
 element-write-heads : tie.Need-element-write-heads
-element-write-heads c = omega (arith, c .before .hash .ensures, hash-lt (c .before .before .args .p) (c .before .before .args .n))
+element-write-heads c = omega (arith, c .before .hash .ensures, hash-lt (c .before .before .args .p .0) (c .before .before .args .n .0))
 
 returns : tie.Need-returns
 returns c = (rw (c .before .hash .ensures), rw (c .before .hash .ensures))

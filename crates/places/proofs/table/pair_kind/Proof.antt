@@ -9,11 +9,11 @@ add-requires c κs = search needs
 
 returns : tie.Need-returns
 unfolding kindOf
-returns c = rw (← c .before .add .ensures, eq-eqb _ _ (c .if1 .taken))
+returns c = rw (← c .before .before .add .ensures, eq-eqb _ _ (c .if1 .taken))
 
 returns-2 : tie.Need-returns-2
 unfolding kindOf
-returns-2 c = rw (← c .before .add .ensures, ne-eqb _ _ (c .if1 .left))
+returns-2 c = rw (← c .before .before .add .ensures, ne-eqb _ _ (c .if1 .left))
 
 pub pair-kind-spec : {M : Type 1} → statement M
 pair-kind-spec = tie.close (tie.spec add-requires returns returns-2)

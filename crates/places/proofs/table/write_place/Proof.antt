@@ -32,7 +32,8 @@ same-length c = search needs
 
 returns : tie.Need-returns
 unfolding putPlace
-returns c = rw (c .before .before .write-number3 .ensures, c .before .before .before .before .before .before .write-number2 .ensures, c .before .before .before .before .before .before .before .before .before .before .write-number .ensures)
+returns c = let b = c .before .before .before .before .before .before in
+    rw (c .before .before .write-number3 .ensures, b .write-number2 .ensures, b .before .before .before .before .write-number .ensures)
 
 pub write-place-spec : {M : Type 1} → statement M
 write-place-spec =

@@ -1,7 +1,4 @@
-use Rattle.model.specs.Cases.{start, given}
-use Rattle.model.specs.Walk.{walk}
-use Rattle.places.proofs.Walking.{within-places, indexed-places, known-by, ended-forbidden, ended-full, from-entries, grown-places, grown-forbidden, grown-full}
-use native.Mathlib.Omega.{arith}
+use Rattle.places.proofs.Walking.{ready-places, known-by, ended-forbidden, ended-full, from-entries, grown-places, grown-forbidden, grown-full}
 use mathlib.Core.Path.{sym, _∙_}
 use borrow.Author.Needs.{needs}
 use Rattle.places.proofs.walk.find_places.Statement.{statement}
@@ -14,9 +11,7 @@ enum-known-w : tie.Need-enum-known-w
 enum-known-w c = search needs
 
 walk-requires : tie.Need-walk-requires
-walk-requires c κs = let e = c .before .before .before .before .w .given .1 in
-    let g = c .before .before .before .before .before .before .before .before .start .ensures in
-    (within-places e (g .fits), omega arith, omega arith, indexed-places e (g .index))
+walk-requires c κs = ready-places (c .before .before .before .before .w .given .1) (c .before .before .before .before .before .before .before .before .start .ensures .ready)
 
 enum-known-w-2 : tie.Need-enum-known-w-2
 enum-known-w-2 c = search needs
@@ -28,7 +23,8 @@ same-length : tie.Need-same-length
 same-length c = search needs
 
 returns : tie.Need-returns
-returns c = known-by (sym (grown-places _ _ (c .before .before .before .before .before .before .before .w .given .1)) ∙ from-entries _ _ _ _ _ _ (c .before .before .before .before .before .before .before .before .before .before .before .start .ensures .reads)) (c .before .before .walk .ensures)
+returns c = let b = c .before .before .before .before .before .before .before in
+    known-by (sym (grown-places _ _ (b .w .given .1)) ∙ from-entries _ _ _ _ _ _ (b .before .before .before .before .start .ensures .reads)) (c .before .before .walk .ensures)
 
 same-length-2 : tie.Need-same-length-2
 same-length-2 c = search needs

@@ -31,7 +31,9 @@ same-length c = search needs
 
 returns : tie.Need-returns
 unfolding placeIn
-returns c = rw (← c .before .before .before .before .before .before .before .before .before .address .ensures) (held-known (c .before .before .before .before .before .before .before .before .before .address .result) (mayBeHeld (transferred (c .before .before .before .before .read-flow .result))) (c .handle-held .ensures) (handled-held _ _ _ _ _ _ _ (c .before .before .before .before .before .before .before .before .fetch .ensures) (c .before .before .before .before .before .before .f .given .1) (c .before .before .before .before .read-flow .ensures) _ _ refl (c .before .before .is-held .ensures) (c .before .if1 .taken) (c .handle-held .ensures)) (c .before .before .before .before .before .before .before .before .before .before .before .before .before .pre .1) (c .before .before .before .before .before .before .before .before .before .before .before .before .before .pre .4))
+returns c = let b = c .before .before .before .before in
+    let d = b .before .before .before .before in
+    rw (← d .before .address .ensures) (held-known (d .before .address .result .0) (mayBeHeld (transferred (b .read-flow .result))) (c .handle-held .ensures) (handled-held _ _ _ _ _ _ _ (d .fetch .ensures) (b .before .before .f .given .1) (b .read-flow .ensures) _ _ refl (c .before .before .is-held .ensures) (c .before .if1 .taken) (c .handle-held .ensures)) (d .before .before .before .before .before .pre .1))
 
 next-requires : tie.Need-next-requires
 next-requires c κs = search needs
@@ -47,14 +49,16 @@ same-length-2 c = search needs
 
 returns-2 : tie.Need-returns-2
 unfolding placeIn
-returns-2 c = rw (← c .before .before .before .before .before .before .before .before .before .before .before .before .before .before .before .before .address .ensures, ← c .before .before .before .before .before .before .next .ensures) (known-by (handled-pair _ _ _ _ _ _ _ (c .before .before .before .before .before .before .before .before .before .before .before .before .before .before .before .fetch .ensures) (c .before .before .before .before .before .before .before .before .before .before .before .before .before .f .given .1) (c .before .before .before .before .before .before .before .before .before .before .before .read-flow .ensures) (c .before .before .before .before .before .before .before .before .before .is-held .ensures) (c .before .before .before .before .before .before .before .before .if1 .left)) (c .before .before .add-names .ensures))
+returns-2 c = let b = c .before .before .before .before .before .before in
+    let d = b .before .before .before .before .before in
+    rw (← d .before .before .before .before .before .address .ensures, ← b .next .ensures) (known-by (handled-pair _ _ _ _ _ _ _ (d .before .before .before .before .fetch .ensures) (d .before .before .f .given .1) (d .read-flow .ensures) (b .before .before .before .is-held .ensures) (b .before .before .if1 .left)) (c .before .before .add-names .ensures))
 
 same-length-3 : tie.Need-same-length-3
 same-length-3 c = search needs
 
 returns-3 : tie.Need-returns-3
 unfolding placeIn seen
-returns-3 c = rw (← c .before .before .before .address .ensures) (still (handled-outside _ _ _ _ _ _ _ (c .before .before .fetch .ensures) (c .enum-told .given .1)) (c .before .before .before .before .before .before .before .pre .1) (c .before .before .before .before .before .before .before .pre .4))
+returns-3 c = rw (← c .before .before .before .address .ensures) (still (handled-outside _ _ _ _ _ _ _ (c .before .before .fetch .ensures) (c .enum-told .given .1)) (c .before .before .before .before .before .before .before .pre .1))
 
 pub handle-spec : {M : Type 1} → statement M
 handle-spec =

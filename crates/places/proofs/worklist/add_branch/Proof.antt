@@ -3,7 +3,6 @@ use Rattle.places.proofs.Walking.{known-two}
 use borrow.Author.Needs.{needs}
 use Rattle.places.proofs.worklist.add_branch.Statement.{statement}
 use Rattle.places.proofs.worklist.add_branch.Tie as tie
-use Rattle.places.proofs.worklist.add_branch.Reads as reads
 
 untaken-requires : tie.Need-untaken-requires
 untaken-requires c κs = search needs
@@ -15,7 +14,9 @@ same-length : tie.Need-same-length
 same-length c = search needs
 
 returns : tie.Need-returns
-returns c = rw (never-names (c .before .before .before .before .before .before .before .before .before .args .cond) (c .before .before .before .before .before .before .before .before .before .args .annul) (c .before .before .before .before .before .before .before .before .before .args .t) (c .before .before .before .before .before .before .before .before .before .args .n) (c .before .before .before .before .before .before .before .if1 .taken), ← c .before .before .before .untaken .ensures) (c .before .before .add-plain .ensures)
+returns c = let b = c .before .before .before .before .before .before .before in
+    let s = b .before .before in
+    rw (never-names (s .args .cond) (s .args .annul) (s .args .t .0) (s .args .n .0) (b .if1 .taken), ← c .before .before .before .untaken .ensures) (c .before .before .add-plain .ensures)
 
 add-plain-requires-2 : tie.Need-add-plain-requires-2
 add-plain-requires-2 c κs = search needs
@@ -24,7 +25,9 @@ same-length-2 : tie.Need-same-length-2
 same-length-2 c = search needs
 
 returns-2 : tie.Need-returns-2
-returns-2 c = rw (always-annuls (c .before .before .before .before .before .before .before .before .before .before .args .cond) (c .before .before .before .before .before .before .before .before .before .before .args .annul) (c .before .before .before .before .before .before .before .before .before .before .args .t) (c .before .before .before .before .before .before .before .before .before .before .args .n) (c .before .before .before .before .before .before .before .if2 .taken) (c .before .before .before .before .before .before .if3 .taken)) (c .before .before .add-plain2 .ensures)
+returns-2 c = let b = c .before .before .before .before .before .before in
+    let s = b .before .before .before .before in
+    rw (always-annuls (s .args .cond) (s .args .annul) (s .args .t .0) (s .args .n .0) (b .before .if2 .taken) (b .if3 .taken)) (c .before .before .add-plain2 .ensures)
 
 add-pair-requires : tie.Need-add-pair-requires
 add-pair-requires c κs = search needs
@@ -33,7 +36,9 @@ same-length-3 : tie.Need-same-length-3
 same-length-3 c = search needs
 
 returns-3 : tie.Need-returns-3
-returns-3 c = rw (always-names (c .before .before .before .before .before .before .before .before .before .before .args .cond) (c .before .before .before .before .before .before .before .before .before .before .args .annul) (c .before .before .before .before .before .before .before .before .before .before .args .t) (c .before .before .before .before .before .before .before .before .before .before .args .n) (c .before .before .before .before .before .before .before .if2 .taken) (c .before .before .before .before .before .before .if3 .left)) (c .before .before .add-pair .ensures)
+returns-3 c = let b = c .before .before .before .before .before .before in
+    let s = b .before .before .before .before in
+    rw (always-names (s .args .cond) (s .args .annul) (s .args .t .0) (s .args .n .0) (b .before .if2 .taken) (b .if3 .left)) (c .before .before .add-pair .ensures)
 
 add-pair-requires-2 : tie.Need-add-pair-requires-2
 add-pair-requires-2 c κs = search needs
@@ -48,8 +53,11 @@ same-length-4 : tie.Need-same-length-4
 same-length-4 c = search needs
 
 returns-4 : tie.Need-returns-4
-returns-4 c = rw (depends-names (c .before .before .before .before .before .before .before .before .before .before .before .before .before .before .before .before .args .cond) (c .before .before .before .before .before .before .before .before .before .before .before .before .before .before .before .before .args .annul) (c .before .before .before .before .before .before .before .before .before .before .before .before .before .before .before .before .args .t) (c .before .before .before .before .before .before .before .before .before .before .before .before .before .before .before .before .args .n) (c .before .before .before .before .before .before .before .before .before .before .before .before .before .before .if1 .left) (c .before .before .before .before .before .before .before .before .before .before .before .before .before .if2 .left), ← c .before .before .before .untaken2 .ensures)
-    (known-two _ _ _ _ _ _ (c .before .before .before .before .before .before .before .before .before .add-pair2 .ensures .reads) (c .before .before .then-plain .ensures))
+returns-4 c = let b = c .before .before .before .before .before .before .before .before .before in
+    let d = b .before .before .before .before in
+    let s = d .before .before .before in
+    rw (depends-names (s .args .cond) (s .args .annul) (s .args .t .0) (s .args .n .0) (d .before .if1 .left) (d .if2 .left), ← c .before .before .before .untaken2 .ensures)
+    (known-two _ _ _ _ _ _ (b .add-pair2 .ensures .reads) (c .before .before .then-plain .ensures))
 
 pub add-branch-spec : {M : Type 1} → statement M
 add-branch-spec =

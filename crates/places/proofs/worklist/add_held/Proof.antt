@@ -5,7 +5,7 @@ use Rattle.places.proofs.worklist.add_held.Statement.{statement}
 use Rattle.places.proofs.worklist.add_held.Tie as tie
 
 add-requires : tie.Need-add-requires
-add-requires c κs = (c .before .before .before .before .pre .0, c .before .before .before .before .pre .1, c .before .before .before .before .pre .2, shows-held _, c .before .before .before .before .pre .3)
+add-requires c κs = (c .before .before .before .before .pre, shows-held _)
 
 counted-requires : tie.Need-counted-requires
 counted-requires c κs = search needs

@@ -5,7 +5,6 @@ use borrow.Author.Tests.{eq-eqb, ne-eqb}
 use borrow.Author.Needs.{needs}
 use Rattle.places.proofs.worklist.add_jump.Statement.{statement}
 use Rattle.places.proofs.worklist.add_jump.Tie as tie
-use Rattle.places.proofs.worklist.add_jump.Reads as reads
 
 add-held-requires : tie.Need-add-held-requires
 add-held-requires c κs = search needs
@@ -17,8 +16,8 @@ returns : tie.Need-returns
 unfolding names transferred
 returns c = rw (eq-eqb _ _ (c .if1 .taken)) (c .before .before .before .add-held .ensures)
 
-add-requires : tie.Need-add-requires
-add-requires c κs = search needs
+further-requires : tie.Need-further-requires
+further-requires c κs = search needs
 
 then-plain-requires : tie.Need-then-plain-requires
 then-plain-requires c κs = search needs
@@ -28,7 +27,8 @@ same-length-2 c = search needs
 
 returns-2 : tie.Need-returns-2
 unfolding names transferred
-returns-2 c = rw (ne-eqb _ _ (c .before .before .before .before .before .before .before .if1 .left), ← c .before .before .before .add .ensures) (known-two _ _ _ _ _ _ (c .before .before .before .before .before .before .before .before .before .before .add-held .ensures .reads) (c .before .before .then-plain .ensures))
+returns-2 c = let b = c .before .before .before .before .before .before .before in
+    rw (ne-eqb _ _ (b .if1 .left), ← c .before .before .before .further .ensures) (known-two _ _ _ _ _ _ (b .before .before .before .add-held .ensures .reads) (c .before .before .then-plain .ensures))
 
 pub add-jump-spec : {M : Type 1} → statement M
 add-jump-spec =
@@ -37,7 +37,7 @@ add-jump-spec =
     add-held-requires
     same-length
     returns
-    add-requires
+    further-requires
     then-plain-requires
     same-length-2
     returns-2)

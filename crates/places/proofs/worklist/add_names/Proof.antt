@@ -7,7 +7,6 @@ use mathlib.Core.Path.{refl}
 use borrow.Author.Needs.{needs}
 use Rattle.places.proofs.worklist.add_names.Statement.{statement}
 use Rattle.places.proofs.worklist.add_names.Tie as tie
-use Rattle.places.proofs.worklist.add_names.Reads as reads
 
 enum-told : tie.Need-enum-told
 enum-told c = search needs
@@ -30,8 +29,8 @@ target-requires c κs = search needs
 add-pair-requires : tie.Need-add-pair-requires
 add-pair-requires c κs = search needs
 
-add-requires : tie.Need-add-requires
-add-requires c κs = search needs
+further-requires : tie.Need-further-requires
+further-requires c κs = search needs
 
 then-plain-requires : tie.Need-then-plain-requires
 then-plain-requires c κs = search needs
@@ -53,11 +52,11 @@ add-jump-requires c κs = search needs
 
 returns : tie.Need-returns
 unfolding names transferred grow seen
-returns c = rw (c .enum-told .given .1) (still refl (c .before .before .before .pre .0) (c .before .before .before .pre .3))
+returns c = rw (c .enum-told .given .1) (still refl (c .before .before .before .pre))
 
 returns-2 : tie.Need-returns-2
 unfolding names transferred grow seen
-returns-2 c = rw (c .enum-told2 .given .1) (still refl (c .before .before .before .pre .0) (c .before .before .before .pre .3))
+returns-2 c = rw (c .enum-told2 .given .1) (still refl (c .before .before .before .pre))
 
 same-length : tie.Need-same-length
 same-length c = search needs
@@ -71,7 +70,8 @@ same-length-2 c = search needs
 
 returns-4 : tie.Need-returns-4
 unfolding names transferred
-returns-4 c = rw (c .before .before .before .before .before .before .before .before .before .before .before .before .before .before .before .f .given .1, ← c .before .before .before .before .before .before .before .before .before .before .target .ensures, ← c .before .before .before .add .ensures) (known-two _ _ _ _ _ _ (c .before .before .before .before .before .before .before .before .before .add-pair .ensures .reads) (c .before .before .then-plain .ensures))
+returns-4 c = let b = c .before .before .before .before .before .before .before .before .before in
+    rw (b .before .before .before .before .before .before .f .given .1, ← b .before .target .ensures, ← c .before .before .before .further .ensures) (known-two _ _ _ _ _ _ (b .add-pair .ensures .reads) (c .before .before .then-plain .ensures))
 
 same-length-3 : tie.Need-same-length-3
 same-length-3 c = search needs
@@ -97,7 +97,7 @@ add-names-spec =
     enum-known-f
     target-requires
     add-pair-requires
-    add-requires
+    further-requires
     then-plain-requires
     enum-known-f-2
     target-requires-2

@@ -8,7 +8,7 @@ pair-kind-requires : tie.Need-pair-kind-requires
 pair-kind-requires c κs = search needs
 
 add-requires : tie.Need-add-requires
-add-requires c κs = (c .before .before .before .before .before .pre .0, c .before .before .before .before .before .pre .1, c .before .before .before .before .before .pre .2, shows-pair _ _ (c .pair-kind .ensures), c .before .before .before .before .before .pre .3)
+add-requires c κs = (c .before .before .before .before .before .pre, shows-pair _ _ (c .pair-kind .ensures))
 
 counted-requires : tie.Need-counted-requires
 counted-requires c κs = search needs

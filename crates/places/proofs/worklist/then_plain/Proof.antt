@@ -1,4 +1,4 @@
-use Rattle.places.proofs.Walking.{within-places, indexed-places, known-by, ended-forbidden, ended-full, grown-places, grown-forbidden, grown-full}
+use Rattle.places.proofs.Walking.{ready-places, known-by, ended-forbidden, ended-full, grown-places, grown-forbidden, grown-full}
 use mathlib.Core.Path.{sym}
 use borrow.Author.Needs.{needs}
 use Rattle.places.proofs.worklist.then_plain.Statement.{statement}
@@ -8,8 +8,7 @@ enum-known-w : tie.Need-enum-known-w
 enum-known-w c = search needs
 
 add-plain-requires : tie.Need-add-plain-requires
-add-plain-requires c κs = let e = c .before .before .before .before .w .given .1 in
-    (within-places e (c .before .before .before .before .before .before .before .pre .0), c .before .before .before .before .before .before .before .pre .1, c .before .before .before .before .before .before .before .pre .2, indexed-places e (c .before .before .before .before .before .before .before .pre .3))
+add-plain-requires c κs = ready-places (c .before .before .before .before .w .given .1) (c .before .before .before .before .before .before .before .pre)
 
 enum-known-w-2 : tie.Need-enum-known-w-2
 enum-known-w-2 c = search needs

@@ -20,11 +20,13 @@ enum-told : tie.Need-enum-told
 enum-told c = search needs
 
 returns : tie.Need-returns
-returns c = λ n. rw (word-group (c .before .before .before .before .before .before .before .args .image .now) (c .before .before .before .before .before .before .before .args .base) (c .before .before .before .before .before .before .before .args .p) (c .before .before .before .before .before .fetch .ensures) (c .before .before .before .before .before .before .before .args .held) n (c .before .before .before .f .given .1) (c .before .read-flow .ensures)) (c .word-size .ensures _ _ n)
+returns c = let b = c .before .before .before in
+    let s = b .before .before .before .before in
+    λ n. rw (word-group (s .args .image .now) (s .args .base) (s .args .p .0) (b .before .before .fetch .ensures) (s .args .held) n (b .f .given .1) (c .before .read-flow .ensures)) (c .word-size .ensures _ _ n)
 
 returns-2 : tie.Need-returns-2
 unfolding size
-returns-2 c = λ n. rw (outside-group (c .before .before .before .before .args .image .now) (c .before .before .before .before .args .base) (c .before .before .before .before .args .p) (c .before .before .fetch .ensures) (c .before .before .before .before .args .held) n (c .enum-told .given .1))
+returns-2 c = λ n. rw (outside-group (c .before .before .before .before .args .image .now) (c .before .before .before .before .args .base) (c .before .before .before .before .args .p .0) (c .before .before .fetch .ensures) (c .before .before .before .before .args .held) n (c .enum-told .given .1))
 
 pub group-size-spec : {M : Type 1} → statement M
 group-size-spec =

@@ -55,10 +55,12 @@ loop-less : tie.Need-loop-less Inv-loop μ-loop
 loop-less c = search needs
 
 loop-again : tie.Need-loop-again Inv-loop μ-loop
-loop-again c = let turn = lay-turn _ _ _ _ _ _ _ (c .before .before .before .before .before .before .before .before .before .before .loop .inv .2) (c .before .before .before .before .before .before .before .before .before .loop-test .taken) (row-size _ _ _ _ (c .before .before .before .before .before .before .before .address .ensures) (c .before .before .before .before .before .is-held .ensures) (c .before .before .before .before .group-size .ensures)) (c .before .before .before .before .before .before .before .before .before .before .before .before .before .pre .2 _ (c .before .before .before .before .before .before .before .before .before .loop-test .taken)) (omega arith) (omega arith) (c .before .before .before .before .before .before .before .before .before .before .loop .inv .4) in
-    let k = size-bound _ (c .before .before .before .before .group-size .ensures 0) in
+loop-again c = let b = c .before .before .before .before in
+    let d = b .before .before .before .before .before in
+    let turn = lay-turn _ _ _ _ _ _ _ (d .before .loop .inv .2) (d .loop-test .taken) (row-size _ _ _ _ (b .before .before .before .address .ensures) (b .before .is-held .ensures) (b .group-size .ensures)) (d .before .before .before .before .pre .2 _ (d .loop-test .taken)) (omega arith) (omega arith) (d .before .loop .inv .4) in
+    let k = size-bound _ (b .group-size .ensures 0) in
     rw (c .before .before .write-number .ensures)
-    (omega arith, simp length-put (c .before .before .before .before .before .before .before .before .before .before .loop .inv .1), λ j. row-trans _ _ _ j (row-kept _ _ _ j) (c .before .before .before .before .before .before .before .before .before .before .loop .inv .2 j), omega (arith, k), turn)
+    (omega arith, simp length-put (d .before .loop .inv .1), λ j. row-trans _ _ _ j (row-kept _ _ _ j) (d .before .loop .inv .2 j), omega (arith, k), turn)
 
 same-length : tie.Need-same-length Inv-loop μ-loop
 same-length c = search needs

@@ -8,10 +8,10 @@ pair-kind-requires : tie.Need-pair-kind-requires
 pair-kind-requires c κs = search needs
 
 first-record-requires : tie.Need-first-record-requires
-first-record-requires c κs = (c .before .before .pre .0, c .before .before .pre .1, c .before .before .pre .2, shows-pair _ _ (c .pair-kind .ensures), c .before .before .pre .3)
+first-record-requires c κs = (c .before .before .pre, shows-pair _ _ (c .pair-kind .ensures))
 
 returns : tie.Need-returns
-returns c = c .first-record .ensures ∙ rw (place-pair (c .before .before .before .args .p) (c .before .before .before .args .n) (c .before .pair-kind .ensures))
+returns c = c .first-record .ensures ∙ rw (place-pair (c .before .before .before .args .p .0) (c .before .before .before .args .n .0) (c .before .pair-kind .ensures))
 
 pub first-of-pair-spec : {M : Type 1} → statement M
 first-of-pair-spec = tie.close (tie.spec pair-kind-requires first-record-requires returns)

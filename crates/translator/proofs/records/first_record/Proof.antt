@@ -20,8 +20,8 @@ returns : tie.Need-returns
 unfolding firstIn
 returns c = rw (← c .before .before .before .find .ensures, lt-ltb _ _ (c .before .if1 .taken)) (c .read-number .ensures)
 
-cast-result : tie.Need-cast-result
-cast-result c = search needs
+cast-t13 : tie.Need-cast-t13
+cast-t13 c = search needs
 
 returns-2 : tie.Need-returns-2
 unfolding firstIn
@@ -36,5 +36,5 @@ first-record-spec =
     add-read-number
     read-number-requires
     returns
-    cast-result
+    cast-t13
     returns-2)

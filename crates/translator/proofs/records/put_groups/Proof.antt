@@ -26,13 +26,14 @@ abbrev μ-loop : tie.MeasureT-loop
 
 loop-holds : tie.Need-loop-holds Inv-loop μ-loop
 unfolding numbersOf upTo
-loop-holds c = (omega arith, refl, zero-add _ ∙ sym (c .before .before .before .pre .2), refl)
+loop-holds c = (omega arith, refl, zero-add _ ∙ sym (c .before .before .before .pre .1), refl)
 
 put-group-requires : tie.Need-put-group-requires Inv-loop μ-loop
-put-group-requires c κs = let t = needed-turn _ _ (next-place _ _ _ refl (c .before .loop-test .taken)) refl _ _ (c .before .before .loop .inv .2) in
-    let n = needed-le (c .before .before .before .before .before .before .args .image .now) (c .before .before .before .before .before .before .args .base) (placesIn (c .before .before .before .before .before .before .args .places .now) (c .before .before .before .before .before .before .args .count)) in
-    let m = length-places (c .before .before .before .before .before .before .args .places .now) (c .before .before .before .before .before .before .args .count) in
-    (c .before .before .before .before .before .before .pre .0, c .before .before .before .before .before .before .pre .1, omega (arith, n, m, c .before .before .before .before .before .before .pre .2, c .before .before .before .before .before .before .pre .1), c .before .loop-test .taken, omega (arith, t, c .before .before .before .before .before .before .pre .3), c .before .before .before .before .before .before .pre .4)
+put-group-requires c κs = let s = c .before .before .before .before .before .before in
+    let t = needed-turn _ _ (next-place _ _ _ refl (c .before .loop-test .taken)) refl _ _ (c .before .before .loop .inv .2) in
+    let n = needed-le (s .args .image .now) (s .args .base) (placesIn (s .args .places .now) (s .args .count)) in
+    let m = length-places (s .args .places .now) (s .args .count) in
+    (record { places = s .pre .0; records = omega (arith, s .pre .1, s .pre .0 .few) }, c .before .loop-test .taken, omega (arith, t, s .pre .2))
 
 add-i : tie.Need-add-i Inv-loop μ-loop
 add-i c = search needs

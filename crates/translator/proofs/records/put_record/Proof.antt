@@ -1,8 +1,12 @@
+use Rattle.model.specs.Records.{recordsNumbers}
 use Rattle.translator.proofs.Putting.{record-put}
 use native.Mathlib.Omega.{arith}
 use borrow.Author.Needs.{needs}
 use Rattle.translator.proofs.records.put_record.Statement.{statement}
 use Rattle.translator.proofs.records.put_record.Tie as tie
+
+numbers-of-requires : tie.Need-numbers-of-requires
+numbers-of-requires c κs = search needs
 
 mul-write-number : tie.Need-mul-write-number
 mul-write-number c = search needs
@@ -32,12 +36,16 @@ same-length : tie.Need-same-length
 same-length c = search needs
 
 returns : tie.Need-returns
-returns c = rw (c .before .before .write-number3 .ensures, c .before .before .before .before .before .before .write-number2 .ensures, c .before .before .before .before .before .before .before .before .before .before .write-number .ensures) (record-put _ _ _ _ _ (omega arith) (omega arith) (omega arith) (omega arith))
+unfolding recordsNumbers
+returns c = let b = c .before .before .before .before .before .before in
+    let d = b .before .before .before .before in
+    rw (c .before .before .write-number3 .ensures, b .write-number2 .ensures, d .write-number .ensures, ← d .before .before .numbers-of .ensures) (record-put _ _ _ _ _ (omega arith) (omega arith) (omega arith) (omega arith))
 
 pub put-record-spec : {M : Type 1} → statement M
 put-record-spec =
     tie.close
     (tie.spec
+    numbers-of-requires
     mul-write-number
     write-number-requires
     mul-write-number-2

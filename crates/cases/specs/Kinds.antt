@@ -1,0 +1,37 @@
+-- What a case of each kind finds.
+use Prim.Native.Nat.{ℕ, _+_, min}
+use mathlib.Core.List.{List}
+use mathlib.Core.Path.{_≡_}
+use lib.ListN.{replicate}
+use Rattle.cases.specs.declared.Core.{Core}
+use Rattle.cases.specs.declared.Core.the-variants.{Old, New, Trail}
+use Rattle.cases.specs.declared.Kind.{Kind}
+use Rattle.cases.specs.declared.Kind.the-variants.{Runs, Translation, Listing}
+use Rattle.cases.specs.declared.file.Found.{Found}
+use Rattle.cases.specs.Files.{numberIn, Checked}
+use Rattle.cases.specs.Runs.{oldFound, newFound}
+use Rattle.cases.specs.Trails.{trailFound}
+use Rattle.cases.specs.Translations.{translationFound, ForSome}
+use Rattle.cases.specs.Listings.{listedFound}
+
+-- how far into a core's case the number stands that counts its data
+unfoldable pub sizeAt : Core → ℕ
+sizeAt Old = 16
+sizeAt New = 24
+sizeAt Trail = 16
+
+-- a core's case over an area
+unfoldable pub ranIn : Core → List ℕ → ℕ → List ℕ → Checked
+ranIn Old bytes at area = oldFound bytes at area
+ranIn New bytes at area = newFound bytes at area
+ranIn Trail bytes at area = trailFound bytes at area
+
+-- over zeros, as many as the case's data has bytes, and at most 65,552
+unfoldable pub ran : Core → List ℕ → ℕ → Found
+ran core bytes at = ranIn core bytes at (replicate (min (numberIn bytes (at + sizeAt core)) 65552) 0) .verdict
+
+-- the verdict on the case at a position
+unfoldable pub Finds : Kind → List ℕ → ℕ → Found → Type 0
+Finds (Runs core) bytes at r = r ≡ ran core bytes at
+Finds Translation bytes at r = ForSome bytes at (λ position. r ≡ translationFound bytes at position)
+Finds Listing bytes at r = r ≡ listedFound bytes at

@@ -1,0 +1,6 @@
+pub mod Files
+pub mod Runs
+pub mod Trails
+pub mod Translations
+pub mod Listings
+pub mod Kinds

@@ -1,0 +1,16 @@
+-- The constructors' values are what all bytes 0 stand for: "The start values are all registers 0 and all flags clear."
+use mathlib.Core.Path.{_≡_, refl}
+use mathlib.Core.List.{List}
+use Prim.Native.Nat.{ℕ}
+use lib.ListN.{replicate}
+use Rattle.numbers.specs.Number.{numberAt, numbersOf, upTo}
+use Rattle.machine.specs.Ends.{endingOf, endingFrom}
+use Rattle.model.specs.Run.{zeroed}
+use Rattle.model.specs.OldState.{startValues, isSet, oldState}
+use Rattle.model.specs.NewState.{newStartValues, newState}
+use Rattle.model.specs.StateBytes.{machineIn, oldIn, newIn}
+
+pub all-zero-starts : (area : List ℕ) → (oldIn (replicate 152 0) area ≡ oldState (startValues .registers) (startValues .control) area)
+    × (newIn (replicate 148 0) area ≡ newState (newStartValues .registers) (newStartValues .control) area)
+unfolding oldIn newIn machineIn zeroed numbersOf upTo numberAt endingFrom endingOf isSet startValues newStartValues
+all-zero-starts area = (refl, refl)
