@@ -1,6 +1,7 @@
 -- V and C of sums and differences say what `FlagsExact` states.
 use Rattle.numbers.specs.Choice.{pick}
 use Rattle.numbers.specs.Number.{plus, minus}
+use Rattle.numbers.proofs.Choice.{same-test}
 use Rattle.words.specs.Conditions.{bitAt, bitOf, nzvcOf}
 use Rattle.machine.specs.Arithmetic.{top, sumOverflow, sumCarry, differenceOverflow, differenceCarry, sumOf, differenceOf, outcomeOf}
 use Rattle.machine.specs.FlagsExact.{signedOf, unsignedOf, fitsSigned, fitsUnsigned, belowZero, Sets, FlagsExact}
@@ -45,11 +46,6 @@ minus-carry : (x y k : ℕ) → less x y -ℤ pos k ≡ less x (y + k)
 minus-carry x y k = ap (λ z. less x y -ℤ z) (plain k) ∙ minus-less x y k 0 ∙ ap (λ n. less n (y + k)) (add-zero x)
 
 -- tests of such a difference are tests of its numbers
-same-test : (s t : Bool) → (s ≡ true → t ≡ true) → (t ≡ true → s ≡ true) → s ≡ t
-same-test true t f g = sym (f refl)
-same-test false true f g = g refl
-same-test false false f g = refl
-
 less-below : (h x y : ℕ) → ltZ (less x y) (pos h) ≡ ltb x (y + h)
 less-below h x zero = same-test (ltb (x + 0) h) (ltb x (0 + h)) (λ e. omega (arith, ltb-true, lt-ltb)) (λ e. omega (arith, ltb-true, lt-ltb))
 less-below h x (suc y) = by (ltb x (suc y)) refl
