@@ -9,6 +9,7 @@ use mathlib.Core.Bool.{Bool, true, false, _&&_}
 use mathlib.Core.List.{List, [], _∷_, _++_}
 use mathlib.Core.Path.{_≡_, refl, sym, ap, subst, _∙_}
 use Rattle.cases.specs.Files.{copied, sameBytes, holding}
+use Rattle.numbers.proofs.Choice.{same-test}
 use Prim.Native.Nat.{ℕ, zero, suc, _+_, _-_, _≤_, _<_, min}
 
 -- `sameBytes` is true exactly where the areas are equal
@@ -28,11 +29,6 @@ same-equal [] [] h = refl
 same-equal [] (y ∷ ys) h = absurd (subst T (sym h) tt)
 same-equal (x ∷ xs) [] h = absurd (subst T (sym h) tt)
 same-equal (x ∷ xs) (y ∷ ys) h = same-by x y xs ys (eqb x y) refl (same-equal xs ys) h
-
-same-test : (r s : Bool) → (r ≡ true → s ≡ true) → (s ≡ true → r ≡ true) → r ≡ s
-same-test true s f g = sym (f refl)
-same-test false true f g = g refl
-same-test false false f g = refl
 
 -- so it is any answer that is
 pub is-same : (r : Bool) (a b : List ℕ) → (r ≡ true → a ≡ b) × (a ≡ b → r ≡ true) → r ≡ sameBytes a b

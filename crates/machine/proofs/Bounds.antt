@@ -120,7 +120,7 @@ unfolding addressOf
 address-lt rs rs1 x = plus-lt (registerOf rs rs1) (valueOf rs x)
 
 -- ---------------------------------------------------------------- arithmetic
-bit-lt : (b : Bool) → bitOf b < 2
+pub bit-lt : (b : Bool) → bitOf b < 2
 unfolding bitOf
 bit-lt true = omega arith
 bit-lt false = omega arith

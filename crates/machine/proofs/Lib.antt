@@ -1,6 +1,7 @@
 pub mod Ends
-pub mod Overflow
+pub mod FlagsExact
 pub mod Loads
 pub mod Effects
 pub mod Zero
 pub mod Bounds
+pub mod Opened

@@ -1,8 +1,8 @@
 -- 01, Words known: "add, addx, sub, subx, and, andn, or, orn, xor, xnor, each plain and setting flags; sll, srl, sra", as V8 has them.
-use Prim.Native.Nat.{ℕ, _+_, _-_, _*_, _/_, _%_, _^_}
-use mathlib.Core.Bool.{Bool, true, false, not}
+use Prim.Native.Nat.{ℕ, _-_, _*_, _/_, _%_, _^_}
+use mathlib.Core.Bool.{Bool, false, not, _&&_, _||_}
 use mathlib.Core.List.{List}
-use lib.Dec.{leb, ltb, eqb}
+use lib.Dec.{leb, eqb}
 use lib.Bits.{bitAnd, bitOr, bitXor}
 use Rattle.numbers.specs.Choice.{pick}
 use Rattle.numbers.specs.Number.{plus, minus}
@@ -16,19 +16,19 @@ use Rattle.machine.specs.Registers.{registerOf, putRegister, valueOf}
 unfoldable pub top : ℕ → Bool
 top x = leb (2 ^ 31) x
 
--- V of a sum: the operands have one sign, and the result has the other
-unfoldable pub addOverflow : Bool → Bool → Bool → Bool
-addOverflow true true r = not r
-addOverflow true false r = false
-addOverflow false true r = false
-addOverflow false false r = r
+-- 02, N3: "Overflow and carry of the flag forms of add, addx, sub and subx are to be worked out, .. from the three top bits, in the steps and order
+-- of V8's own text": V and C of a sum, then of a difference, over r[rs1]<31>, operand2<31> and result<31>. `FlagsExact` states what they say.
+abbrev pub sumOverflow : Bool → Bool → Bool → Bool
+sumOverflow rs1 operand2 result = (rs1 && operand2 && not result) || (not rs1 && not operand2 && result)
 
--- V of a difference: the operands differ in sign, and the result has not the first one's
-unfoldable pub subOverflow : Bool → Bool → Bool → Bool
-subOverflow true true r = false
-subOverflow true false r = not r
-subOverflow false true r = r
-subOverflow false false r = false
+abbrev pub sumCarry : Bool → Bool → Bool → Bool
+sumCarry rs1 operand2 result = (rs1 && operand2) || (not result && (rs1 || operand2))
+
+abbrev pub differenceOverflow : Bool → Bool → Bool → Bool
+differenceOverflow rs1 operand2 result = (rs1 && not operand2 && not result) || (not rs1 && operand2 && result)
+
+abbrev pub differenceCarry : Bool → Bool → Bool → Bool
+differenceCarry rs1 operand2 result = (not rs1 && operand2) || (result && (not rs1 || operand2))
 
 -- what an operation gives, and the flags 8N + 4Z + 2V + C that its flag form sets
 pub record Outcome : Type 0 where
@@ -38,17 +38,16 @@ pub record Outcome : Type 0 where
 abbrev pub outcome : ℕ → Bool → Bool → Outcome
 outcome r v c = record { value = r; flags = nzvcOf (top r) (eqb r 0) v c }
 
--- k comes in from C; C where the sum needs more than 32 bits
+-- k comes in from C, 0 for add and sub; V and C see it in the result alone
 unfoldable pub sumOf : ℕ → ℕ → ℕ → Outcome
 sumOf a b k =
     let r = plus (plus a b) k in
-    outcome r (addOverflow (top a) (top b) (top r)) (ltb (2 ^ 32 - 1) (a + b + k))
+    outcome r (sumOverflow (top a) (top b) (top r)) (sumCarry (top a) (top b) (top r))
 
--- C where the difference is below 0: a borrow
 unfoldable pub differenceOf : ℕ → ℕ → ℕ → Outcome
 differenceOf a b k =
     let r = minus (minus a b) k in
-    outcome r (subOverflow (top a) (top b) (top r)) (ltb a (b + k))
+    outcome r (differenceOverflow (top a) (top b) (top r)) (differenceCarry (top a) (top b) (top r))
 
 unfoldable pub logicOf : ℕ → Outcome
 logicOf r = outcome r false false

@@ -1,5 +1,6 @@
 pub mod Ends
 pub mod Registers
 pub mod Arithmetic
+pub mod FlagsExact
 pub mod DataArea
 pub mod Effect

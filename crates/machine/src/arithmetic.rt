@@ -1,10 +1,10 @@
 // Arithmetic, logic and shifts, with the flags that their flag forms set.
 ghost use mathlib.Core.Path.{_≡_};
-ghost use Prim.Native.Nat.{_+_, _-_, _*_, _%_, _<_};
-ghost use lib.Dec.{ltb, eqb};
-ghost use Rattle.words.specs.Conditions.{bitOf, nzvcOf};
+ghost use Prim.Native.Nat.{_-_, _%_};
+ghost use lib.Dec.{eqb};
+ghost use Rattle.words.specs.Conditions.{nzvcOf};
 ghost use Rattle.machine.specs.Registers.{registerOf, valueOf};
-ghost use Rattle.machine.specs.Arithmetic.{top, addOverflow, subOverflow, shiftedLeft, shiftedRight, shiftedSigned, carryOf, sumOf, differenceOf, logicOf, written, after, arithmeticOf};
+ghost use Rattle.machine.specs.Arithmetic.{top, sumOverflow, sumCarry, differenceOverflow, differenceCarry, shiftedLeft, shiftedRight, shiftedSigned, carryOf, sumOf, differenceOf, logicOf, written, after, arithmeticOf};
 use crate::Flags;
 use crate::bit;
 use crate::registers::put;
@@ -54,54 +54,68 @@ fn sra(a: u32, b: u32) -> u32
     }
 }
 
-// V of a sum and of a difference, and C of a sum.
-fn sum_overflows(a: u32, b: u32, r: u32) -> u32
-    ensures { λ v. ⌜ (v ≡ bitOf (addOverflow (top a) (top b) (top r))) × (v < 2) ⌝ }
+// V8's V and C, in its steps and order, from r[rs1]<31>, operand2<31> and result<31>: of a sum, then of a difference.
+fn sum_overflow(rs1: bool, operand2: bool, result: bool) -> bool
+    ensures { λ v. ⌜ v ≡ sumOverflow rs1 operand2 result ⌝ }
 {
-    ((a ^ r) & (b ^ r)) >> 31
+    (rs1 & operand2 & !result) | (!rs1 & !operand2 & result)
 }
 
-fn difference_overflows(a: u32, b: u32, r: u32) -> u32
-    ensures { λ v. ⌜ (v ≡ bitOf (subOverflow (top a) (top b) (top r))) × (v < 2) ⌝ }
+fn sum_carry(rs1: bool, operand2: bool, result: bool) -> bool
+    ensures { λ c. ⌜ c ≡ sumCarry rs1 operand2 result ⌝ }
 {
-    ((a ^ b) & (a ^ r)) >> 31
+    (rs1 & operand2) | (!result & (rs1 | operand2))
 }
 
-fn sum_carries(a: u32, b: u32, k: u32) -> u32
-    requires { ⌜ k < 2 ⌝ }
-    ensures { λ v. ⌜ (v ≡ bitOf (ltb 4294967295 (a + b + k))) × (v < 2) ⌝ }
+fn difference_overflow(rs1: bool, operand2: bool, result: bool) -> bool
+    ensures { λ v. ⌜ v ≡ differenceOverflow rs1 operand2 result ⌝ }
 {
-    let s = a as u64 + b as u64 + k as u64;
-    (s >> 32) as u32
+    (rs1 & !operand2 & !result) | (!rs1 & operand2 & result)
+}
+
+fn difference_carry(rs1: bool, operand2: bool, result: bool) -> bool
+    ensures { λ c. ⌜ c ≡ differenceCarry rs1 operand2 result ⌝ }
+{
+    (!rs1 & operand2) | (result & (!rs1 | operand2))
 }
 
 // The flags from a result, V and C.
-fn flags_with(r: u32, v: u32, c: u32) -> Flags
-    requires { ⌜ (v < 2) × (c < 2) ⌝ }
-    ensures { λ f. ⌜ f .nzvc ≡ bitOf (top r) * 8 + bitOf (eqb r 0) * 4 + v * 2 + c ⌝ }
+fn flags_with(r: u32, v: bool, c: bool) -> Flags
+    ensures { λ f. ⌜ f .nzvc ≡ nzvcOf (top r) (eqb r 0) v c ⌝ }
 {
-    let n = (r >> 31) * 8 + bit(r == 0) * 4 + v * 2 + c;
+    let n = bit(top_bit(r)) * 8 + bit(r == 0) * 4 + bit(v) * 2 + bit(c);
     Flags { nzvc: n }
 }
 
-fn sum_flags(a: u32, b: u32, k: u32, r: u32) -> Flags
-    requires { ⌜ k < 2 ⌝ }
-    ensures { λ f. ⌜ f .nzvc ≡ nzvcOf (top r) (eqb r 0) (addOverflow (top a) (top b) (top r)) (ltb 4294967295 (a + b + k)) ⌝ }
+fn sum_flags(a: u32, b: u32, r: u32) -> Flags
+    ensures { λ f. ⌜ f .nzvc ≡ nzvcOf (top r) (eqb r 0) (sumOverflow (top a) (top b) (top r)) (sumCarry (top a) (top b) (top r)) ⌝ }
 {
-    flags_with(r, sum_overflows(a, b, r), sum_carries(a, b, k))
+    let rs1 = top_bit(a);
+    let operand2 = top_bit(b);
+    let result = top_bit(r);
+    flags_with(
+        r,
+        sum_overflow(rs1, operand2, result),
+        sum_carry(rs1, operand2, result),
+    )
 }
 
-fn difference_flags(a: u32, b: u32, k: u32, r: u32) -> Flags
-    requires { ⌜ k < 2 ⌝ }
-    ensures { λ f. ⌜ f .nzvc ≡ nzvcOf (top r) (eqb r 0) (subOverflow (top a) (top b) (top r)) (ltb a (b + k)) ⌝ }
+fn difference_flags(a: u32, b: u32, r: u32) -> Flags
+    ensures { λ f. ⌜ f .nzvc ≡ nzvcOf (top r) (eqb r 0) (differenceOverflow (top a) (top b) (top r)) (differenceCarry (top a) (top b) (top r)) ⌝ }
 {
-    let c = bit((a as u64) < b as u64 + k as u64);
-    flags_with(r, difference_overflows(a, b, r), c)
+    let rs1 = top_bit(a);
+    let operand2 = top_bit(b);
+    let result = top_bit(r);
+    flags_with(
+        r,
+        difference_overflow(rs1, operand2, result),
+        difference_carry(rs1, operand2, result),
+    )
 }
 
 // C, as a number.
 fn carry(f: Flags) -> u32
-    ensures { λ r. ⌜ (r ≡ carryOf (f .nzvc)) × (r < 2) ⌝ }
+    ensures { λ r. ⌜ r ≡ carryOf (f .nzvc) ⌝ }
 {
     f.nzvc & 1
 }
@@ -116,7 +130,6 @@ fn add_word(
     rs1: u32,
     x: Operand,
 ) -> Flags
-    requires { ⌜ k < 2 ⌝ }
     ensures { λ r. ⌜ after (r .nzvc) (now (regs .exit)) ≡ written (f .nzvc) (now (regs .entry)) cc rd (sumOf (registerOf (now (regs .entry)) rs1) (valueOf (now (regs .entry)) x) k) ⌝ }
 {
     let a = reg(regs, rs1);
@@ -124,7 +137,7 @@ fn add_word(
     let v = numbers::add(numbers::add(a, b), k);
     put(regs, rd, v);
     if cc {
-        return sum_flags(a, b, k, v);
+        return sum_flags(a, b, v);
     }
     f
 }
@@ -139,7 +152,6 @@ fn subtract_word(
     rs1: u32,
     x: Operand,
 ) -> Flags
-    requires { ⌜ k < 2 ⌝ }
     ensures { λ r. ⌜ after (r .nzvc) (now (regs .exit)) ≡ written (f .nzvc) (now (regs .entry)) cc rd (differenceOf (registerOf (now (regs .entry)) rs1) (valueOf (now (regs .entry)) x) k) ⌝ }
 {
     let a = reg(regs, rs1);
@@ -147,7 +159,7 @@ fn subtract_word(
     let v = numbers::subtract(numbers::subtract(a, b), k);
     put(regs, rd, v);
     if cc {
-        return difference_flags(a, b, k, v);
+        return difference_flags(a, b, v);
     }
     f
 }
@@ -158,7 +170,7 @@ fn logic_word(f: Flags, regs: &mut [u32; 32], cc: bool, rd: u32, v: u32) -> Flag
 {
     put(regs, rd, v);
     if cc {
-        return flags_with(v, 0, 0);
+        return flags_with(v, false, false);
     }
     f
 }

@@ -3,14 +3,10 @@ use Rattle.model.specs.Translation.{answerNumbers, badLength, badCount, 
 use Rattle.model.specs.Walk.{grow, grown, tested, handle, walk, placesOf}
 use Rattle.model.specs.Records.{numbersIn, rowAt, rowsIn, recordOf, recordAt, recordsIn, biccGroup, groupOf, heldGroupOf, groupAt, heldGroupAt, group, past, numbered, put, tableNumbers, recordNumbers, recordsNumbers, first, rowsFrom, recordsFrom, rowsOf, recordsOf}
 use Rattle.model.specs.Places.{kindOf, nextOf, placeAt, samePlace, member, whichOf, biccNames, names, namesAt, followers, idleBicc, mayBeHeld, mayBeHeldAt, allowed, plains}
-use Rattle.machine.specs.DataArea.{sizeOf, loadOf}
 use Rattle.numbers.specs.Number.{plus, minus, signed, numberAt, bytesOf, numbersOf, upTo}
 use Rattle.words.specs.Reader.{bits, bitSet, operandOf, format0Of, format2Of, format3Of, byFormat, instructionOf}
 use Rattle.words.specs.Conditions.{rows, bitAt, holdsOf, bitOf, nzvcOf}
-use Rattle.machine.specs.Arithmetic.{top, addOverflow, subOverflow, sumOf, differenceOf, logicOf, outcomeOf, carryOf, arithmeticOf}
-use Rattle.machine.specs.Registers.{registerOf, putRegister, valueOf, addressOf}
-use Rattle.machine.specs.Ends.{within, settle}
-use Rattle.machine.specs.Effect.{trapOf, effectOf}
+use Rattle.machine.proofs.Opened.{machine-open}
 use Rattle.model.specs.Cases.{over, start, shown, endOf, ended, newEnded, stepAt, cases, noCase, Row, bytesBack, given, answered, listed, entriesTold, told, begins, oldTold, newTold}
 use Rattle.model.specs.Cores.{shownOf, oldMark, oldShown, naming, newMark, newShown, goesBy, newByHeld, newTrailAt}
 use Rattle.model.specs.NewCore.{following, fit, doesWord, holds, chooses, seek, lost, goes, stops, does, newNext, begunAt, newBegun}
@@ -60,11 +56,6 @@ each-row (r ∷ rs) e (suc i) h = each-row rs (both (sameList (r .got) (r .want)
 words-open : Unit {0}
 unfolding plus minus signed numberAt bytesOf numbersOf upTo bits bitSet operandOf format0Of format2Of format3Of byFormat instructionOf rows bitAt holdsOf bitOf nzvcOf
 words-open = tt
-
--- what words do
-machine-open : Unit {0}
-unfolding top addOverflow subOverflow sumOf differenceOf logicOf outcomeOf carryOf arithmeticOf registerOf putRegister valueOf addressOf within settle trapOf effectOf sizeOf loadOf
-machine-open = tt
 
 -- the old core
 old-open : Unit {0}

@@ -69,7 +69,7 @@ names (call disp) p n = Pair n (target p disp) ∷ plain (plus p 8) ∷ []
 names (bicc cond annul disp) p n = biccNames (whichOf cond) annul (target p disp) n
 names (jmpl rd rs1 x) p n = Held n ∷ pick (eqb rd 0) [] (plain (plus p 8) ∷ [])
 
--- "p outside the image: .. none"
+-- "p outside the image, .. none"
 unfoldable pub namesAt : Option ℕ → ℕ → ℕ → List Place
 namesAt none p n = []
 namesAt (some word) p n = names (transferOf (instructionOf word)) p n

@@ -1,6 +1,6 @@
 -- Laws of choice by a test and by a key.
 use Prim.Native.Nat.{ℕ}
-use mathlib.Core.Path.{_≡_, refl}
+use mathlib.Core.Path.{_≡_, refl, sym}
 use mathlib.Core.Bool.{Bool, true, false, false≢true}
 use mathlib.Core.List.{List, [], _∷_}
 use lib.Dec.{eqb}
@@ -11,6 +11,12 @@ use Rattle.numbers.specs.Choice.{pick, find}
 pub by-test : {A : Type 0} (t : Bool) (r a b : A) → (t ≡ true → r ≡ a) → (t ≡ false → r ≡ b) → r ≡ pick t a b
 by-test true r a b f g = f refl
 by-test false r a b f g = g refl
+
+-- tests that pass together are one
+pub same-test : (s t : Bool) → (s ≡ true → t ≡ true) → (t ≡ true → s ≡ true) → s ≡ t
+same-test true t f g = sym (f refl)
+same-test false true f g = g refl
+same-test false false f g = refl
 
 -- what holds of both values holds of the one that is picked
 pub either : {A : Type 0} (P : A → Type 0) (t : Bool) (a b : A) → P a → P b → P (pick t a b)

@@ -251,7 +251,9 @@ pub fn effect(instruction: Instruction, machine: &mut Machine, area: &mut Area) 
 }
 
 /// The result of an arithmetic word and the flags that its flag form sets. Overflow and carry are taken
-/// from exact numbers; the tests hold them against V8's formulas over the three top bits.
+/// from exact numbers, as 02 says of N3's steps: overflow "exactly where the exact signed result does not
+/// fit 32 bits, and carry exactly where the unsigned sum does not or the difference is below 0". The tests
+/// hold them against the steps themselves, V8's formulas over the three top bits.
 fn compute(operation: Operation, left: u32, right: u32, carry: bool) -> (u32, Flags) {
     let logical = |result: u32| (result, flags_of(result, false, false));
     match operation {

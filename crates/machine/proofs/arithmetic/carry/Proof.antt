@@ -1,11 +1,11 @@
 use Rattle.machine.specs.Arithmetic.{carryOf}
-use lib.Bits.{and-mask, mask-lt}
+use lib.Bits.{and-mask}
 use Rattle.machine.proofs.arithmetic.carry.Statement.{statement}
 use Rattle.machine.proofs.arithmetic.carry.Tie as tie
 
 returns : tie.Need-returns
 unfolding carryOf
-returns c = (and-mask (c .before .args .f .nzvc) 1, mask-lt (c .before .args .f .nzvc) 1)
+returns c = and-mask (c .before .args .f .nzvc) 1
 
 pub carry-spec : {M : Type 1} → statement M
 carry-spec = tie.close (tie.spec returns)

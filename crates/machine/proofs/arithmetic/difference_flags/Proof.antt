@@ -1,25 +1,40 @@
-use Rattle.words.specs.Conditions.{nzvcOf}
 use borrow.Author.Needs.{needs}
 use Rattle.machine.proofs.arithmetic.difference_flags.Statement.{statement}
 use Rattle.machine.proofs.arithmetic.difference_flags.Tie as tie
 
-add-bit : tie.Need-add-bit
-add-bit c = search needs
+top-bit-requires : tie.Need-top-bit-requires
+top-bit-requires c κs = search needs
 
-bit-requires : tie.Need-bit-requires
-bit-requires c κs = search needs
+top-bit-requires-2 : tie.Need-top-bit-requires-2
+top-bit-requires-2 c κs = search needs
 
-difference-overflows-requires : tie.Need-difference-overflows-requires
-difference-overflows-requires c κs = search needs
+top-bit-requires-3 : tie.Need-top-bit-requires-3
+top-bit-requires-3 c κs = search needs
+
+difference-overflow-requires : tie.Need-difference-overflow-requires
+difference-overflow-requires c κs = search needs
+
+difference-carry-requires : tie.Need-difference-carry-requires
+difference-carry-requires c κs = search needs
 
 flags-with-requires : tie.Need-flags-with-requires
 flags-with-requires c κs = search needs
 
 returns : tie.Need-returns
-unfolding nzvcOf
-returns c = rw (← c .before .before .bit .ensures .0, ← c .before .difference-overflows .ensures .0) (c .flags-with .ensures)
+returns c =
+    let tops = c .before .before .before in
+    let result = tops .top-bit3 .ensures in
+    rw (← tops .before .before .top-bit .ensures, ← tops .before .top-bit2 .ensures, ← result, ← c .before .before .difference-overflow .ensures, ← c .before .difference-carry .ensures, result)
+    (c .flags-with .ensures)
 
 pub difference-flags-spec : {M : Type 1} → statement M
 difference-flags-spec =
     tie.close
-    (tie.spec add-bit bit-requires difference-overflows-requires flags-with-requires returns)
+    (tie.spec
+    top-bit-requires
+    top-bit-requires-2
+    top-bit-requires-3
+    difference-overflow-requires
+    difference-carry-requires
+    flags-with-requires
+    returns)

@@ -193,11 +193,11 @@ returns-8 c = rw (c .before .before .before .before .before .before .before .enu
 
 returns-9 : tie.Need-returns-9
 unfolding arithmeticOf outcomeOf
-returns-9 c = rw (c .before .before .before .enum-told9 .given .1, ← c .before .carry .ensures .0) (c .add-word2 .ensures)
+returns-9 c = rw (c .before .before .before .enum-told9 .given .1, ← c .before .carry .ensures) (c .add-word2 .ensures)
 
 returns-10 : tie.Need-returns-10
 unfolding arithmeticOf outcomeOf
-returns-10 c = rw (c .before .before .before .enum-told10 .given .1, ← c .before .carry2 .ensures .0) (c .subtract-word2 .ensures)
+returns-10 c = rw (c .before .before .before .enum-told10 .given .1, ← c .before .carry2 .ensures) (c .subtract-word2 .ensures)
 
 returns-11 : tie.Need-returns-11
 unfolding arithmeticOf outcomeOf

@@ -1,21 +1,40 @@
-use Rattle.words.specs.Conditions.{nzvcOf}
 use borrow.Author.Needs.{needs}
 use Rattle.machine.proofs.arithmetic.sum_flags.Statement.{statement}
 use Rattle.machine.proofs.arithmetic.sum_flags.Tie as tie
 
-sum-overflows-requires : tie.Need-sum-overflows-requires
-sum-overflows-requires c κs = search needs
+top-bit-requires : tie.Need-top-bit-requires
+top-bit-requires c κs = search needs
 
-sum-carries-requires : tie.Need-sum-carries-requires
-sum-carries-requires c κs = search needs
+top-bit-requires-2 : tie.Need-top-bit-requires-2
+top-bit-requires-2 c κs = search needs
+
+top-bit-requires-3 : tie.Need-top-bit-requires-3
+top-bit-requires-3 c κs = search needs
+
+sum-overflow-requires : tie.Need-sum-overflow-requires
+sum-overflow-requires c κs = search needs
+
+sum-carry-requires : tie.Need-sum-carry-requires
+sum-carry-requires c κs = search needs
 
 flags-with-requires : tie.Need-flags-with-requires
 flags-with-requires c κs = search needs
 
 returns : tie.Need-returns
-unfolding nzvcOf
-returns c = rw (← c .before .sum-carries .ensures .0, ← c .before .before .sum-overflows .ensures .0) (c .flags-with .ensures)
+returns c =
+    let tops = c .before .before .before in
+    let result = tops .top-bit3 .ensures in
+    rw (← tops .before .before .top-bit .ensures, ← tops .before .top-bit2 .ensures, ← result, ← c .before .before .sum-overflow .ensures, ← c .before .sum-carry .ensures, result)
+    (c .flags-with .ensures)
 
 pub sum-flags-spec : {M : Type 1} → statement M
 sum-flags-spec =
-    tie.close (tie.spec sum-overflows-requires sum-carries-requires flags-with-requires returns)
+    tie.close
+    (tie.spec
+    top-bit-requires
+    top-bit-requires-2
+    top-bit-requires-3
+    sum-overflow-requires
+    sum-carry-requires
+    flags-with-requires
+    returns)
