@@ -4,7 +4,6 @@ use native.Mathlib.Omega.{arith}
 use mathlib.Core.Path.{_≡_, refl, sym, ap, _∙_, subst}
 use mathlib.Core.Bool.{Bool, true, false, not, false≢true}
 use mathlib.Core.List.{List, [], _∷_}
-use mathlib.Core.Logic.{_↔_}
 use lib.Dec.{eqb, leb}
 use lib.ListN.{length, getD}
 use borrow.Author.Tests.{eq-eqb, ne-eqb}
@@ -13,7 +12,7 @@ use Rattle.model.specs.declared.Answer.{Answer}
 use Rattle.model.specs.declared.Answer.the-variants.{Accepted, ImageLength, Base, Entry, Forbidden, NoRoom, RecordsShort}
 use Rattle.model.specs.Records.{numbersIn, recordsOf}
 use Rattle.model.specs.Walk.{Walked, table, refused, endless, placesOf}
-use Rattle.model.specs.Translation.{Handed, badLength, badCount, badEntry, firstBad, placeRoom, refusal, acceptance, fromWalk, translation}
+use Rattle.model.specs.Translation.{Handed, badCount, badEntry, firstBad, placeRoom, refusal, acceptance, fromWalk, translation}
 use Rattle.model.specs.FirstBadEntry.{First, NamesFirst, FirstBadEntry}
 
 -- ---------------------------------------------------------------- the position is that of the first bad entry

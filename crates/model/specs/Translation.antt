@@ -1,10 +1,9 @@
 -- 01, What the translator hands back: from the bytes of image and entries, the base and the lengths of both buffers.
-use Prim.Native.Nat.{ℕ, suc, _-_, _/_, _%_, _<_, min}
-use mathlib.Core.Path.{_≡_}
-use mathlib.Core.Bool.{Bool, true, false, _&&_, _||_, not}
+use Prim.Native.Nat.{ℕ, suc, _-_, _/_, _%_, min}
+use mathlib.Core.Bool.{Bool, _&&_, _||_, not}
 use mathlib.Core.List.{List, [], _∷_, _++_}
 use lib.Dec.{eqb, leb, ltb}
-use lib.ListN.{length, getD, replicate}
+use lib.ListN.{length, replicate}
 use Rattle.numbers.specs.Choice.{pick}
 use Rattle.numbers.specs.Number.{bytesOf}
 use Rattle.model.specs.declared.Place.{Place}

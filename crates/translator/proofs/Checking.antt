@@ -2,19 +2,16 @@
 use lib.Dec.{leb, ltb, eqb}
 use Rattle.numbers.proofs.Lists.{length-up, drop-up, drop-all-up}
 use Rattle.numbers.specs.Number.{numberAt, numbersOf}
-use Rattle.numbers.specs.Choice.{pick}
 use borrow.Author.Tests.{eq-eqb, ne-eqb, lt-ltb, le-ltb, leb-true, leb-false, ltb-false}
-use lib.ListN.{length, getD, drop}
+use lib.ListN.{length, drop}
 use native.Mathlib.Numerals.{add-one}
-use native.Mathlib.Omega.{arith}
-use mathlib.Core.List.{List, [], _∷_}
+use mathlib.Core.List.{List}
 use mathlib.Core.Bool.{Bool, true, false, false≢true, not, _||_}
 use mathlib.Core.Path.{_≡_, refl, sym, _∙_}
 use Prim.Native.Nat.{ℕ, suc, _+_, _*_, _/_, _%_, _≤_, _<_}
 use Rattle.model.specs.Translation.{Handed, badLength, badCount, badEntry, firstBad, placeRoom, refusal, fromWalk, translation}
 use Rattle.model.specs.Walk.{Walked, placesOf}
 use Rattle.model.specs.Records.{numbersIn}
-use Rattle.model.specs.declared.Answer.{Answer}
 use Rattle.model.specs.declared.Answer.the-variants.{ImageLength, Base, Entry}
 
 -- what does not fit lies outside
