@@ -8,7 +8,7 @@ use mathlib.Core.Option.{none, some}
 use lib.Dec.{eqb, leb}
 use lib.ListN.{length, take, replicate}
 use lib.Seq.{take-at}
-use borrow.Author.Tests.{eqb-true, leb-true}
+use borrow.Author.Tests.{eqb-true, leb-true, not-false}
 use Rattle.numbers.specs.Choice.{pick}
 use Rattle.numbers.specs.Number.{Below, minus, plus, numberAt, numbersOf, bytesOf}
 use Rattle.numbers.proofs.Number.{length-bytes}
@@ -141,18 +141,14 @@ module _ (image : List ℕ) (base : ℕ) (entryList : List ℕ) (placesLength re
       go true l i = accepts ps q g (leb-true _ _ l) i
       go false l i = refused-no (RecordsShort (length (recordsOf image base ps))) refl i
 
-  not-false : (b : Bool) → not b ≡ false → b ≡ true
-  not-false true e = refl
-  not-false false e = sym e
-
   pub took : translation image base entryList placesLength recordsLength .answer ≡ Accepted P R
       → Took (translation image base entryList placesLength recordsLength)
   unfolding translation
   took e =
       let es = numbersIn entryList in
       let bad = firstBad base (length image) 0 es in
-      past-test (badLength (length image)) (ImageLength (length image)) _ refl
-      (λ q1. past-test (not (eqb (base % 4) 0)) (Base base) _ refl
-      (λ q2. past-test (badCount (length es)) (Entry 0) _ refl
-      (λ q3. past-test (not (eqb bad 0)) (Entry bad) _ refl
+      past-test (badLength (length image)) _ _ refl
+      (λ q1. past-test (not (eqb (base % 4) 0)) _ _ refl
+      (λ q2. past-test (badCount (length es)) _ _ refl
+      (λ q3. past-test (not (eqb bad 0)) _ _ refl
       (λ q4. took-walk (eqb-true bad 0 (not-false (eqb bad 0) q4)) (placesOf image base (placeRoom placesLength) es) refl)))) e

@@ -9,10 +9,10 @@ use lib.ListN.{length, getD}
 use borrow.Author.Tests.{eq-eqb, ne-eqb}
 use Rattle.numbers.specs.Choice.{pick}
 use Rattle.model.specs.declared.Answer.{Answer}
-use Rattle.model.specs.declared.Answer.the-variants.{Accepted, ImageLength, Base, Entry, Forbidden, NoRoom, RecordsShort}
+use Rattle.model.specs.declared.Answer.the-variants.{Entry, Forbidden, NoRoom, RecordsShort}
 use Rattle.model.specs.Records.{numbersIn, recordsOf}
 use Rattle.model.specs.Walk.{Walked, table, refused, endless, placesOf}
-use Rattle.model.specs.Translation.{Handed, badCount, badEntry, firstBad, placeRoom, refusal, acceptance, fromWalk, translation}
+use Rattle.model.specs.Translation.{Handed, answerNumbers, badCount, badEntry, firstBad, placeRoom, refusal, acceptance, fromWalk, translation}
 use Rattle.model.specs.FirstBadEntry.{First, NamesFirst, FirstBadEntry}
 
 -- ---------------------------------------------------------------- the position is that of the first bad entry
@@ -50,18 +50,8 @@ module _ (base size : ℕ) where
       (first-named (suc k) es i (record { there = omega (arith, f .there); bad = f .bad; none-before = λ j l. f .none-before (suc j) (omega arith) }) ∙ omega arith)
 
 -- ---------------------------------------------------------------- and the answer's
--- no other refusal is 3, and no acceptance
-abbrev third : Answer → Bool
-third (Accepted n m) = false
-third (ImageLength n) = false
-third (Base a) = false
-third (Entry k) = true
-third (Forbidden a) = false
-third (NoRoom a) = false
-third (RecordsShort n) = false
-
-no-entry : {A : Type 0} (a : Answer) {k : ℕ} → third a ≡ false → a ≡ Entry k → A
-no-entry a n e = absurd (false≢true (sym n ∙ ap third e))
+abbrev numberOf : Answer → ℕ
+numberOf a = getD (answerNumbers a) 0 0
 
 module _ (image : List ℕ) (base : ℕ) (entries : List ℕ) (pl rl : ℕ) where
   abbrev es : List ℕ
@@ -70,19 +60,20 @@ module _ (image : List ℕ) (base : ℕ) (entries : List ℕ) (pl rl : ℕ) wher
   abbrev size : ℕ
   size = length image
 
-  from-walk : (w : Walked) → third (fromWalk image base pl rl w .answer) ≡ false
-  unfolding fromWalk refusal acceptance
-  from-walk (table ps) = go (leb (length (recordsOf image base ps)) (rl / 12))
+  -- after the walk no answer is 3
+  not-third : (w : Walked) → numberOf (fromWalk image base pl rl w .answer) ≡ 3 → ⊥
+  unfolding fromWalk refusal acceptance answerNumbers
+  not-third (table ps) = go (leb (length (recordsOf image base ps)) (rl / 12))
     where
-      go : (b : Bool) → third (pick b (acceptance image base pl rl ps) (refusal pl rl (RecordsShort (length (recordsOf image base ps)))) .answer) ≡ false
-      go true = refl
-      go false = refl
-  from-walk (refused n a) = go (eqb n 4)
+      go : (b : Bool) → numberOf (pick b (acceptance image base pl rl ps) (refusal pl rl (RecordsShort (length (recordsOf image base ps)))) .answer) ≡ 3 → ⊥
+      go true e = omega arith
+      go false e = omega arith
+  not-third (refused n a) = go (eqb n 4)
     where
-      go : (b : Bool) → third (pick b (refusal pl rl (Forbidden a)) (refusal pl rl (NoRoom a)) .answer) ≡ false
-      go true = refl
-      go false = refl
-  from-walk endless = refl
+      go : (b : Bool) → numberOf (pick b (refusal pl rl (Forbidden a)) (refusal pl rl (NoRoom a)) .answer) ≡ 3 → ⊥
+      go true e = omega arith
+      go false e = omega arith
+  not-third endless = λ e. omega arith
 
   -- the answer where 1 and 2 do not come first, by the count and the position
   abbrev walked : Handed
@@ -90,6 +81,10 @@ module _ (image : List ℕ) (base : ℕ) (entries : List ℕ) (pl rl : ℕ) wher
 
   abbrev answer : Bool → ℕ → Answer
   answer c p = pick c (refusal pl rl (Entry 0)) (pick (not (eqb p 0)) (refusal pl rl (Entry p)) walked) .answer
+
+  no-entry : {A : Type 0} (k : ℕ) → walked .answer ≡ Entry k → A
+  unfolding answerNumbers
+  no-entry k e = absurd (not-third (placesOf image base (placeRoom pl) es) (ap numberOf e))
 
   names : (c : Bool) (p : ℕ) → badCount (length es) ≡ c → firstBad base size 0 es ≡ p → NamesFirst base size es (answer c p)
   unfolding refusal
@@ -100,11 +95,8 @@ module _ (image : List ℕ) (base : ℕ) (entries : List ℕ) (pl rl : ℕ) wher
       }
   names false zero hc hp =
       record {
-        count = (λ e. no-entry (walked .answer) (from-walk (placesOf image base (placeRoom pl) es)) e, λ e. absurd (false≢true (sym hc ∙ e)));
-        entry = λ k. (
-          λ e. no-entry (walked .answer) (from-walk (placesOf image base (placeRoom pl) es)) e,
-          λ f. absurd (omega (arith, first-named base size 0 es k (f .1))),
-        );
+        count = (no-entry 0, λ e. absurd (false≢true (sym hc ∙ e)));
+        entry = λ k. (no-entry (suc k), λ f. absurd (omega (arith, first-named base size 0 es k (f .1))));
       }
   names false (suc p) hc hp =
       let d = named-first base size 0 es p hp in
