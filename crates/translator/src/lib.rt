@@ -94,7 +94,7 @@ fn finish(
     Answer::Accepted(count as u32, total as u32)
 }
 
-// The translation, with what it leaves past the numbers free.
+// The translation before its buffers are cleared: nothing is said of the bytes past what it counts.
 fn attempt(image: &[u8], base: u32, entries: &[u8], places: &mut [u8], records: &mut [u8]) -> Answer
     ensures { λ r. ⌜ cleared r (now (places .exit)) (now (records .exit)) ≡ translation (now (image .entry)) base (now (entries .entry)) (length (now (places .entry))) (length (now (records .entry))) ⌝ }
 {
