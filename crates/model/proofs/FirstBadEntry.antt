@@ -20,7 +20,7 @@ module _ (base size : ℕ) where
   abbrev from : ℕ → List ℕ → ℕ
   from = firstBad base size
 
-  -- the first of a longer list
+  -- the first of a list, from its head and its tail
   head-first : (e : ℕ) (es : List ℕ) → badEntry base size e ≡ true → First base size (e ∷ es) 0
   head-first e es h = record { there = omega arith; bad = h; none-before = λ i l. absurd (omega arith) }
 
@@ -31,6 +31,7 @@ module _ (base size : ℕ) where
       before zero l = h
       before (suc i) l = f .none-before i (omega arith)
 
+  -- a position names the first bad entry
   named-first : (k : ℕ) (es : List ℕ) (p : ℕ) → from k es ≡ suc p → (i : ℕ) × ((p ≡ k + i) × First base size es i)
   unfolding firstBad
   named-first k [] p h = absurd (omega arith)
@@ -41,6 +42,7 @@ module _ (base size : ℕ) where
       go true q h r = (0, (omega arith, head-first e es q))
       go false q h r = let d = r h in (suc (d .0), (omega (arith, d .1 .0), tail-first e es (d .0) q (d .1 .1)))
 
+  -- and the first bad entry has that position
   first-named : (k : ℕ) (es : List ℕ) (i : ℕ) → First base size es i → from k es ≡ suc (k + i)
   unfolding firstBad
   first-named k [] i f = absurd (omega (arith, f .there))
