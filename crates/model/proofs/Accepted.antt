@@ -1,4 +1,5 @@
--- What acceptance says: the walk made the places, no entry is bad, and the buffers begin with the bytes of table and records.
+-- What acceptance says: the walk made the places, no entry is bad, what is counted lies in the buffers, and they begin with the bytes of table
+-- and records.
 use Prim.Native.Nat.{ℕ, suc, _*_, _-_, _/_, _%_, _^_, _≤_, _<_}
 use native.Mathlib.Omega.{arith}
 use mathlib.Core.Path.{_≡_, refl, sym, ap, _∙_, subst}
