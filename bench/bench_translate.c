@@ -66,8 +66,6 @@ static bool take_output(struct reader *reader, struct output *known, const struc
     memset(known->records, 0, in->records_length);
     memcpy(known->places, places, places_used);
     memcpy(known->records, records, records_used);
-    if (!accepted)
-        known->answer.second = 0; /* in the file a 1 says that several entries are bad; both sides name the lowest */
     return true;
 }
 

@@ -129,7 +129,7 @@ static void print_refusal(const struct pijorrel_answer *answer)
 {
     static const char *const reasons[] = {
         "", "the image's length is 0, above 16,384 or no multiple of 4: ", "the base is no multiple of 4: ",
-        "an entry is misaligned or outside the image; its position among the entries is ",
+        "an entry is misaligned or outside the image; the first that is has position ",
         "a branch, call or jmpl stands in the delay slot of a jmpl, at address ",
         "there are more than 8,192 places; the one too many is at address ", "the record buffer is short of "
     };

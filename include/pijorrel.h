@@ -104,7 +104,8 @@ struct pijorrel_end pijorrel_old_run(const uint8_t *image, size_t image_length, 
  *   0  accepted (first: the place count, second: the record count)
  *   1  image length 0, above 16,384 or no multiple of 4 (the length)
  *   2  base no multiple of 4 (the base)
- *   3  0 or over 64 entries (0), or an entry misaligned or outside the image (the position of one, counted from 1)
+ *   3  0 or over 64 entries (0), or an entry misaligned or outside the image (the position of the first such entry in
+ *      the list, counted from 1)
  *   4  a held place, a jmpl's delay slot, has call, jmpl or any Bicc but bn without annul (its address)
  *   5  no room for a place in the table, or more than 8,192 (its address)
  *   6  the record buffer is short (the records needed) */

@@ -10,9 +10,8 @@ use Prim.Native.Nat.{ℕ, _*_, suc}
 use mathlib.Core.List.{List, [], _∷_}
 use lib.ListN.{take}
 use Rattle.machine.specs.Ends.{Ending}
-use Rattle.numbers.specs.Choice.{pick}
 use Rattle.model.specs.Records.{Rec, Row, rowsIn, recordsIn}
-use Rattle.model.specs.Translation.{Handed, answerNumbers, badEntry}
+use Rattle.model.specs.Translation.{Handed, answerNumbers}
 use Rattle.model.specs.Trails.{Trail, cut, spent, shut, at, Entry, entries, closing, gaps, later}
 use Rattle.model.specs.Cores.{Start, newOver, newBegin, stepsFor, newTrailAt}
 
@@ -23,11 +22,6 @@ definitions = tt
 -- the answer's numbers, and the bytes of both buffers
 abbrev pub handed : Handed → List (List ℕ)
 handed h = answerNumbers (h .answer) ∷ h .places ∷ h .records ∷ []
-
--- 1 for each bad entry and 0 for each good one
-abbrev pub badOnes : ℕ → ℕ → List ℕ → List ℕ
-badOnes base size [] = []
-badOnes base size (e ∷ es) = pick (badEntry base size e) 1 0 ∷ badOnes base size es
 
 -- what closes a trail: the cut, the count of steps, or an end
 abbrev pub closedBy : Trail → ℕ
@@ -81,11 +75,11 @@ use mathlib.Core.List.{List, [], _∷_}
 use lib.ListN.{length}
 use Rattle.machine.specs.Ends.{ending}
 use Rattle.machine.specs.Effect.{machine}
-use Rattle.model.specs.Records.{doWord, link, hold, goIf, goTo, goHeld, stop, unknown, row, numbersIn}
+use Rattle.model.specs.Records.{doWord, link, hold, goIf, goTo, goHeld, stop, unknown, row}
 use Rattle.model.specs.Translation.{Handed, translation}
 use Rattle.model.specs.Trails.{entry}
 use Rattle.model.specs.Cores.{Start, oldOver, oldBegin, trailOf}
-use Rattle.equations.specs.Shown.{definitions, handed, badOnes, shown, showing, over, translated, malformed}
+use Rattle.equations.specs.Shown.{definitions, handed, shown, showing, over, translated, malformed}
 """
 
 CUT, SPENT, SHUT = 0, 1, 2
@@ -142,11 +136,10 @@ def abbreviation(name, kind, term):
 
 def given(case):
     """What the equations of a case have in common."""
-    n, position = case.number, case.answer[1] if case.has("bad") else 0
+    n = case.number
     start = (f"record {{ address = {case.address[0]}; registers = {listed(case.registers)}; flags = {case.flags[0]};"
              f" area = {listed(case.data)} }}")
-    handed = (f"translation image-{n} {case.base[0]} entries-{n} {case.places_length[0]} {case.records_length[0]}"
-              f" {position}")
+    handed = f"translation image-{n} {case.base[0]} entries-{n} {case.places_length[0]} {case.records_length[0]}"
     yield abbreviation(f"image-{n}", "List ℕ", listed(bytes_of([case.image]) + case.image_tail))
     yield abbreviation(f"entries-{n}", "List ℕ", listed(bytes_of([case.entries]) + case.entries_tail))
     yield abbreviation(f"start-{n}", "Start", start)
@@ -159,9 +152,6 @@ def equations(case):
     yield Equation(f"answer-{n}", f"handed handed-{n}", listed(map(listed, (case.answer, places, records))))
     old = f"trailOf (oldOver image-{n} {base} {db}) {cut} (oldBegin start-{n})"
     yield Equation(f"old-{n}", f"showing ({old})", trail_term(case, "old", CUT))
-    if case.has("bad"):
-        marks = [int(at + 1 in case.bad) for at in range(len(case.entries))]
-        yield Equation(f"bad-{n}", f"badOnes {base} (length image-{n}) (numbersIn entries-{n})", listed(marks))
     if case.accepted:
         counts = f"{case.answer[1]} {case.answer[2]}"
         left = f"translated {counts} {base} (length image-{n}) {db} {cut} start-{n} handed-{n}"

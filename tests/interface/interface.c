@@ -193,6 +193,23 @@ static void translation_edges(void)
     CHECK(a.number == 5 && a.first == 0);
 }
 
+/* Refusal 3 names the first bad entry of a list, and a bad count is 0 whatever the entries are. */
+static void first_bad_entry(void)
+{
+    uint8_t image[16] = { 0 }, entries[4 * 65] = { 0 };
+    put_number(entries, 62, 16); /* outside the image */
+    put_number(entries, 63, 2);  /* misaligned */
+    struct pijorrel_answer a = pijorrel_translate(image, 16, 0, entries, 4 * 64, NULL, 0, NULL, 0);
+    CHECK(a.number == 3 && a.first == 63 && a.second == 0);
+    put_number(entries, 1, 0xFFFFFFFE); /* both */
+    a = pijorrel_translate(image, 16, 0, entries, 4 * 64, NULL, 0, NULL, 0);
+    CHECK(a.number == 3 && a.first == 2 && a.second == 0);
+    a = pijorrel_translate(image, 16, 0, entries, 4 * 65, NULL, 0, NULL, 0);
+    CHECK(a.number == 3 && a.first == 0 && a.second == 0);
+    a = pijorrel_translate(image, 16, 0, entries, 4 + 3, NULL, 0, NULL, 0);
+    CHECK(a.number == 5 && a.first == 0); /* a tail is no entry: the list is good */
+}
+
 int main(void)
 {
     couple_of_branches();
@@ -201,6 +218,7 @@ int main(void)
     data_edges();
     listing_runs();
     translation_edges();
+    first_bad_entry();
     printf("%d of %d checks of the C interface hold\n", checks - failures, checks);
     return failures != 0;
 }

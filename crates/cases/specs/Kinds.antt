@@ -1,7 +1,6 @@
 -- What a case of each kind finds.
 use Prim.Native.Nat.{ℕ, _+_, min}
 use mathlib.Core.List.{List}
-use mathlib.Core.Path.{_≡_}
 use lib.ListN.{replicate}
 use Rattle.cases.specs.declared.Core.{Core}
 use Rattle.cases.specs.declared.Core.the-variants.{Old, New, Trail}
@@ -11,7 +10,7 @@ use Rattle.cases.specs.declared.file.Found.{Found}
 use Rattle.cases.specs.Files.{numberIn, Checked}
 use Rattle.cases.specs.Runs.{oldFound, newFound}
 use Rattle.cases.specs.Trails.{trailFound}
-use Rattle.cases.specs.Translations.{translationFound, ForSome}
+use Rattle.cases.specs.Translations.{translationFound}
 use Rattle.cases.specs.Listings.{listedFound}
 
 -- how far into a core's case the number stands that counts its data
@@ -31,7 +30,7 @@ unfoldable pub ran : Core → List ℕ → ℕ → Found
 ran core bytes at = ranIn core bytes at (replicate (min (numberIn bytes (at + sizeAt core)) 65552) 0) .verdict
 
 -- the verdict on the case at a position
-unfoldable pub Finds : Kind → List ℕ → ℕ → Found → Type 0
-Finds (Runs core) bytes at r = r ≡ ran core bytes at
-Finds Translation bytes at r = ForSome bytes at (λ position. r ≡ translationFound bytes at position)
-Finds Listing bytes at r = r ≡ listedFound bytes at
+unfoldable pub found : Kind → List ℕ → ℕ → Found
+found (Runs core) bytes at = ran core bytes at
+found Translation bytes at = translationFound bytes at
+found Listing bytes at = listedFound bytes at

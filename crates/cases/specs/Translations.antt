@@ -1,11 +1,11 @@
 -- What a case of the translator finds: what its definition hands back, beside the answer, the places and the records that the file has.
-use Prim.Native.Nat.{ℕ, _+_, _-_, _*_, _/_, min}
-use mathlib.Core.Bool.{Bool, false, _&&_}
+use Prim.Native.Nat.{ℕ, _+_, _*_, min}
+use mathlib.Core.Bool.{Bool, _&&_}
 use mathlib.Core.List.{List}
-use lib.Dec.{eqb, leb}
-use lib.ListN.{length, getD}
+use lib.Dec.{eqb}
+use lib.ListN.{getD}
 use Rattle.numbers.specs.Choice.{pick}
-use Rattle.model.specs.Translation.{badEntry, Back, returned, translation, Freely}
+use Rattle.model.specs.Translation.{Back, returned, translation}
 use Rattle.cases.specs.declared.file.Found.{Found}
 use Rattle.cases.specs.declared.translation.Parts.{Parts}
 use Rattle.cases.specs.Files.{numberIn, partOf, paddedTo, holding, oneEntry}
@@ -35,18 +35,9 @@ translationParts bytes at =
       next = places + rows + bulk;
     }
 
--- whether a position, counted from 1, is that of a bad entry
-unfoldable pub namesBad : List ℕ → ℕ → ℕ → ℕ → Bool
-namesBad entries position base size =
-    pick (eqb position 0) false
-    (pick (leb (length entries / 4) (position - 1)) false (badEntry base size (numberIn entries ((position - 1) * 4))))
-
--- whether an answer's three numbers are the known ones; beside refusal 3 a known 1 says that any bad entry's position is right
-unfoldable pub answered : List ℕ → List ℕ → ℕ → ℕ → ℕ → ℕ → ℕ → Bool
-answered known entries base size number first second =
-    eqb number (numberIn known 0)
-    && pick (eqb number 3 && eqb (numberIn known 8) 1) (eqb second 0 && namesBad entries first base size)
-    (eqb first (numberIn known 4) && eqb second (numberIn known 8))
+-- whether an answer's three numbers are the known ones
+unfoldable pub answered : List ℕ → ℕ → ℕ → ℕ → Bool
+answered known number first second = eqb number (numberIn known 0) && eqb first (numberIn known 4) && eqb second (numberIn known 8)
 
 -- a verdict, and what both lent buffers then hold
 pub record CheckedBoth : Type 0 where
@@ -75,7 +66,7 @@ module _ (bytes : List ℕ) (at : ℕ) where
       let p = translationParts bytes at in
       let numbers = b .numbers in
       eqb (numberIn bytes at) 0x54524E53 && eqb placesLength (numberIn bytes (at + 16)) && eqb recordsLength (numberIn bytes (at + 20))
-      && answered (partOf bytes (at + 24) 12) entriesOf baseOf (p .extent) (getD numbers 0 0) (getD numbers 1 0) (getD numbers 2 0)
+      && answered (partOf bytes (at + 24) 12) (getD numbers 0 0) (getD numbers 1 0) (getD numbers 2 0)
       && holding (b .places) (partOf bytes (p .places) (p .rows)) 0
       && holding (b .records) (partOf bytes (p .records) (p .bulk)) 0
 
@@ -83,16 +74,11 @@ module _ (bytes : List ℕ) (at : ℕ) where
   backFound placesLength recordsLength b =
       checkedBoth (oneEntry (translationParts bytes at .next) (backAgrees placesLength recordsLength b)) (b .places) (b .records)
 
-  -- what a case finds in buffers of two lengths, for a position that is named in refusal 3
-  unfoldable pub translationIn : ℕ → ℕ → ℕ → CheckedBoth
-  translationIn placesLength recordsLength position =
-      backFound placesLength recordsLength (returned (translation imageOf baseOf entriesOf placesLength recordsLength position))
+  -- what a case finds in buffers of two lengths
+  unfoldable pub translationIn : ℕ → ℕ → CheckedBoth
+  translationIn placesLength recordsLength =
+      backFound placesLength recordsLength (returned (translation imageOf baseOf entriesOf placesLength recordsLength))
 
   -- in buffers of the case's lengths, or as long as there are here
-  unfoldable pub translationFound : ℕ → Found
-  translationFound position =
-      translationIn (min (numberIn bytes (at + 16)) 131104) (min (numberIn bytes (at + 20)) 196608) position .verdict
-
-  -- what holds of a case holds for some position that the translator may name
-  abbrev pub ForSome : (ℕ → Type 0) → Type 0
-  ForSome holds = Freely imageOf baseOf entriesOf holds
+  unfoldable pub translationFound : Found
+  translationFound = translationIn (min (numberIn bytes (at + 16)) 131104) (min (numberIn bytes (at + 20)) 196608) .verdict

@@ -3,7 +3,7 @@ ghost use mathlib.Core.Path.{_≡_};
 ghost use Prim.Native.Nat.{_+_, _≤_};
 ghost use lib.ListN.{length, replicate};
 ghost use Rattle.cases.specs.Files.{numberIn};
-ghost use Rattle.cases.specs.Kinds.{sizeAt, ran, Finds};
+ghost use Rattle.cases.specs.Kinds.{sizeAt, ran, found};
 use file::Found;
 use libc::STDOUT_FILENO;
 
@@ -82,7 +82,7 @@ fn check_run(core: Core, bytes: &[u8], at: usize) -> Found
 // Runs the case at a position.
 fn check(kind: Kind, bytes: &[u8], at: usize) -> Found
     requires { ⌜ at ≤ length (now bytes) + 4 ⌝ }
-    ensures { λ r. ⌜ Finds kind (now (bytes .entry)) at r ⌝ }
+    ensures { λ r. ⌜ r ≡ found kind (now (bytes .entry)) at ⌝ }
 {
     match kind {
         Kind::Runs(core) => check_run(core, bytes, at),

@@ -2,7 +2,7 @@
 ghost use mathlib.Core.Path.{_≡_};
 ghost use Prim.Native.Nat.{_+_, _≤_};
 ghost use lib.ListN.{length, replicate};
-ghost use Rattle.cases.specs.Translations.{countedIn, translationParts, namesBad, answered, checkedBoth, translationIn, translationFound, ForSome};
+ghost use Rattle.cases.specs.Translations.{countedIn, translationParts, answered, checkedBoth, translationIn, translationFound};
 use crate::file::Found;
 use crate::file::holds;
 use crate::file::least;
@@ -67,40 +67,19 @@ fn locate(bytes: &[u8], at: usize) -> Parts
     }
 }
 
-// Whether a position, counted from 1, is that of an entry that is misaligned or outside the image.
-fn names_bad(entries: &[u8], position: u64, base: u32, extent: usize) -> bool
-    ensures { λ r. ⌜ r ≡ namesBad (now (entries .entry)) position base extent ⌝ }
+// Whether an answer is the known one.
+fn answers(known: &[u8], r: PijorrelAnswer) -> bool
+    ensures { λ s. ⌜ s ≡ answered (now (known .entry)) (r .number) (r .first) (r .second) ⌝ }
 {
-    if position == 0 {
-        return false;
-    }
-    let k = position as usize - 1;
-    if entries.len() / 4 <= k {
-        return false;
-    }
-    let entry = number(entries, k * 4);
-    let distance = numbers::subtract(entry, base) as usize;
-    !((entry % 4 == 0) & (distance + 4 <= extent))
-}
-
-// Whether an answer is the known one. Where several entries are bad, the case has 1 as second and any bad position is right.
-fn answers(known: &[u8], entries: &[u8], base: u32, extent: usize, r: PijorrelAnswer) -> bool
-    ensures { λ s. ⌜ s ≡ answered (now (known .entry)) (now (entries .entry)) base extent (r .number) (r .first) (r .second) ⌝ }
-{
-    let first = number(known, 4) as u64;
-    let second = number(known, 8) as u64;
-    let same = r.number == number(known, 0);
-    let free = (r.number == 3) & (second == 1);
-    if free {
-        return same & ((r.second == 0) & names_bad(entries, r.first, base, extent));
-    }
-    same & ((r.first == first) & (r.second == second))
+    (r.number == number(known, 0))
+        & (r.first == number(known, 4) as u64)
+        & (r.second == number(known, 8) as u64)
 }
 
 // Runs the case that starts at a position, in buffers of its lengths. It has one entry.
 fn check_in(bytes: &[u8], at: usize, table: &mut [u8], list: &mut [u8]) -> Found
     requires { ⌜ at ≤ length (now bytes) + 4 ⌝ }
-    ensures { λ r. ⌜ ForSome (now (bytes .entry)) at (λ position. checkedBoth r (now (table .exit)) (now (list .exit)) ≡ translationIn (now (bytes .entry)) at (length (now (table .entry))) (length (now (list .entry))) position) ⌝ }
+    ensures { λ r. ⌜ checkedBoth r (now (table .exit)) (now (list .exit)) ≡ translationIn (now (bytes .entry)) at (length (now (table .entry))) (length (now (list .entry))) ⌝ }
 {
     let base = number(bytes, at + 8);
     let room = table.len() == number(bytes, at + 16) as usize;
@@ -115,7 +94,7 @@ fn check_in(bytes: &[u8], at: usize, table: &mut [u8], list: &mut [u8]) -> Found
     let agrees = (number(bytes, at) == TAG)
         & room
         & space
-        & answers(known, entries, base, p.extent, r)
+        & answers(known, r)
         & holds(table, places, 0)
         & holds(list, records, 0);
     one(p.next, agrees)
@@ -137,7 +116,7 @@ fn used_list() -> [u8; LIST]
 // Runs the case that starts at a position. A case with longer buffers than there are here differs.
 pub fn check(bytes: &[u8], at: usize) -> Found
     requires { ⌜ at ≤ length (now bytes) + 4 ⌝ }
-    ensures { λ r. ⌜ ForSome (now (bytes .entry)) at (λ position. r ≡ translationFound (now (bytes .entry)) at position) ⌝ }
+    ensures { λ r. ⌜ r ≡ translationFound (now (bytes .entry)) at ⌝ }
 {
     let mut table = used_table();
     let mut list = used_list();

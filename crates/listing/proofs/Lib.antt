@@ -1,5 +1,5 @@
 pub mod Writing
 pub mod Decimal
 pub mod Lines
-pub mod Free
+pub mod Listing
 pub mod Example

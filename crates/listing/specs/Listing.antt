@@ -60,14 +60,14 @@ answerText (RecordsShort n) places records = refusalText (take 2 (answerNumbers 
 abbrev pub listed : Handed → List ℕ
 listed h = answerText (h .answer) (h .places) (h .records)
 
--- entry 0; it lies in every image whose length is good, so that the position that is free in refusal 3 is never asked for
+-- entry 0
 abbrev pub entryZero : List ℕ
 entryZero = 0 ∷ 0 ∷ 0 ∷ 0 ∷ []
 
 -- "Longer input prints 1 1025 under those names."
 unfoldable pub listingOf : List ℕ → List ℕ
 listingOf bytes =
-    pick (ltb 1024 (length bytes)) (refusalText (1 ∷ 1025 ∷ [])) (listed (translation bytes 0 entryZero 8192 12288 0))
+    pick (ltb 1024 (length bytes)) (refusalText (1 ∷ 1025 ∷ [])) (listed (translation bytes 0 entryZero 8192 12288))
 
 -- the listing stands at the start of the buffer and has r bytes; the others are as they were
 pub record Listed (bytes out out′ : List ℕ) (r : ℕ) : Type 0 where

@@ -1,5 +1,6 @@
--- What acceptance says: the walk made the places, no entry is bad, and the buffers begin with the bytes of table and records.
-use Prim.Native.Nat.{ℕ, suc, _*_, _-_, _/_, _%_, _^_, _<_}
+-- What acceptance says: the walk made the places, no entry is bad, what is counted lies in the buffers, and they begin with the bytes of table
+-- and records.
+use Prim.Native.Nat.{ℕ, suc, _*_, _-_, _/_, _%_, _^_, _≤_, _<_}
 use native.Mathlib.Omega.{arith}
 use mathlib.Core.Path.{_≡_, refl, sym, ap, _∙_, subst}
 use mathlib.Core.Bool.{Bool, true, false, _&&_, not, false≢true}
@@ -8,7 +9,7 @@ use mathlib.Core.Option.{none, some}
 use lib.Dec.{eqb, leb}
 use lib.ListN.{length, take, replicate}
 use lib.Seq.{take-at}
-use borrow.Author.Tests.{eqb-true}
+use borrow.Author.Tests.{eqb-true, leb-true, not-false}
 use Rattle.numbers.specs.Choice.{pick}
 use Rattle.numbers.specs.Number.{Below, minus, plus, numberAt, numbersOf, bytesOf}
 use Rattle.numbers.proofs.Number.{length-bytes}
@@ -20,10 +21,11 @@ use Rattle.model.specs.OldCore.{inImage, wordIn}
 use Rattle.model.specs.Places.{plain, plains}
 use Rattle.model.specs.Walk.{Walked, table, refused, endless, placesOf}
 use Rattle.model.specs.Records.{group, past, rowsFrom, rowsOf, recordsOf, tableNumbers, recordsNumbers, numbersIn}
-use Rattle.model.specs.Translation.{Handed, badLength, badCount, badEntry, anyBad, placeRoom, filled, refusal, acceptance, fromWalk, translation}
+use Rattle.model.specs.Translation.{Handed, badLength, badCount, badEntry, firstBad, placeRoom, filled, refusal, acceptance, fromWalk, translation}
 use Rattle.model.proofs.Members.{AllP}
 use Rattle.model.proofs.OldSide.{Aligned}
 use Rattle.model.proofs.Packed.{length-table, length-records}
+use Rattle.model.proofs.Walk.{places-fit}
 
 -- ---------------------------------------------------------------- numbers of bytes have 32 bits
 pub words-lt : (image : List ℕ) (base : ℕ) → Below 256 image → (p w : ℕ) → wordIn image base p ≡ some w → w < 2 ^ 32
@@ -49,14 +51,14 @@ good-aligned base size e l h = let z : e % 4 ≡ 0 = eqb-true (e % 4) 0 (go (eqb
     go true q = refl
     go false q = absurd (false≢true (sym q))
 
-pub entries-aligned : (base size : ℕ) (es : List ℕ) → Below (2 ^ 32) es → anyBad base size es ≡ false → AllP Aligned (plains es)
-unfolding anyBad plains
-entries-aligned base size [] l h = tt
-entries-aligned base size (e ∷ es) l h = go (badEntry base size e) refl h (λ i. entries-aligned base size es (l .1) i)
+pub entries-aligned : (base size k : ℕ) (es : List ℕ) → Below (2 ^ 32) es → firstBad base size k es ≡ 0 → AllP Aligned (plains es)
+unfolding firstBad plains
+entries-aligned base size k [] l h = tt
+entries-aligned base size k (e ∷ es) l h = go (badEntry base size e) refl h (entries-aligned base size (suc k) es (l .1))
   where
-    go : (b : Bool) → badEntry base size e ≡ b → pick b true (anyBad base size es) ≡ false → (anyBad base size es ≡ false → AllP Aligned (plains es))
-        → Aligned (plain e) × AllP Aligned (plains es)
-    go true q i ih = absurd (false≢true (sym i))
+    go : (b : Bool) → badEntry base size e ≡ b → pick b (suc k) (firstBad base size (suc k) es) ≡ 0
+        → (firstBad base size (suc k) es ≡ 0 → AllP Aligned (plains es)) → Aligned (plain e) × AllP Aligned (plains es)
+    go true q i ih = absurd (omega arith)
     go false q i ih = (good-aligned base size e (l .0) q, ih i)
 
 length-rows : (image : List ℕ) (base f : ℕ) (ps : List Place) → length (rowsFrom image base f ps) ≡ length ps
@@ -65,14 +67,16 @@ length-rows image base f [] = refl
 length-rows image base f (y ∷ ys) = ap suc (length-rows image base (past (group image base y) f) ys)
 
 -- ---------------------------------------------------------------- acceptance
-module _ (image : List ℕ) (base : ℕ) (entryList : List ℕ) (placesLength recordsLength position P R : ℕ) where
+module _ (image : List ℕ) (base : ℕ) (entryList : List ℕ) (placesLength recordsLength P R : ℕ) where
   abbrev Refused : Answer → Handed
-  Refused = refusal image base entryList placesLength recordsLength position
+  Refused = refusal placesLength recordsLength
 
   pub record Took (h : Handed) : Type 0 where
     pub ps : List Place
     pub made : placesOf image base (placeRoom placesLength) (numbersIn entryList) ≡ table ps
-    pub good : anyBad base (length image) (numbersIn entryList) ≡ false
+    pub good : firstBad base (length image) 0 (numbersIn entryList) ≡ 0
+    pub place-room : 16 * P ≤ placesLength
+    pub record-room : 12 * R ≤ recordsLength
     pub table-bytes : take (16 * P) (h .places) ≡ bytesOf (tableNumbers (rowsOf image base ps))
     pub record-bytes : take (12 * R) (h .records) ≡ bytesOf (recordsNumbers (recordsOf image base ps))
 
@@ -95,16 +99,19 @@ module _ (image : List ℕ) (base : ℕ) (entryList : List ℕ) (placesLength re
   front ns size n e = take-at (bytesOf ns) (replicate (size - length (bytesOf ns)) 0) n (omega (arith, length-bytes ns))
 
   accepts : (ps : List Place) → placesOf image base (placeRoom placesLength) (numbersIn entryList) ≡ table ps
-      → anyBad base (length image) (numbersIn entryList) ≡ false → acceptance image base entryList placesLength recordsLength position ps .answer ≡ Accepted P R
-      → Took (acceptance image base entryList placesLength recordsLength position ps)
-  unfolding acceptance rowsOf
-  accepts ps q g e =
+      → firstBad base (length image) 0 (numbersIn entryList) ≡ 0 → length (recordsOf image base ps) ≤ recordsLength / 12
+      → acceptance image base placesLength recordsLength ps .answer ≡ Accepted P R
+      → Took (acceptance image base placesLength recordsLength ps)
+  unfolding acceptance rowsOf placeRoom
+  accepts ps q g l e =
       let a : length ps ≡ P = cc in
       let b : length (recordsOf image base ps) ≡ R = cc in
       record {
         ps = ps;
         made = q;
         good = g;
+        place-room = omega (arith, places-fit image base (placeRoom placesLength) (numbersIn entryList) ps q);
+        record-room = omega arith;
         table-bytes = front (tableNumbers (rowsFrom image base 0 ps)) placesLength (16 * P)
             (omega (arith, length-table (rowsFrom image base 0 ps), length-rows image base 0 ps));
         record-bytes = front (recordsNumbers (recordsOf image base ps)) recordsLength (12 * R) (omega (arith, length-records (recordsOf image base ps)));
@@ -115,31 +122,34 @@ module _ (image : List ℕ) (base : ℕ) (entryList : List ℕ) (placesLength re
   past-test true a h r f e = refused-no a r e
   past-test false a h r f e = f refl e
 
-  took-walk : anyBad base (length image) (numbersIn entryList) ≡ false → (y : Walked)
+  took-walk : firstBad base (length image) 0 (numbersIn entryList) ≡ 0 → (y : Walked)
       → placesOf image base (placeRoom placesLength) (numbersIn entryList) ≡ y
-      → fromWalk image base entryList placesLength recordsLength position y .answer ≡ Accepted P R
-      → Took (fromWalk image base entryList placesLength recordsLength position y)
+      → fromWalk image base placesLength recordsLength y .answer ≡ Accepted P R
+      → Took (fromWalk image base placesLength recordsLength y)
   unfolding fromWalk
   took-walk g (refused n a) q e = past-test (eqb n 4) (Forbidden a) (Refused (NoRoom a)) refl (λ z. refused-no (NoRoom a) refl) e
   took-walk g endless q e = refused-no (NoRoom 0) refl e
-  took-walk g (table ps) q e = go (leb (length (recordsOf image base ps)) (recordsLength / 12)) e
+  took-walk g (table ps) q e = go (leb (length (recordsOf image base ps)) (recordsLength / 12)) refl e
     where
       accepted : Handed
-      accepted = acceptance image base entryList placesLength recordsLength position ps
+      accepted = acceptance image base placesLength recordsLength ps
 
       short : Handed
       short = Refused (RecordsShort (length (recordsOf image base ps)))
 
-      go : (b : Bool) → pick b accepted short .answer ≡ Accepted P R → Took (pick b accepted short)
-      go true i = accepts ps q g i
-      go false i = refused-no (RecordsShort (length (recordsOf image base ps))) refl i
+      go : (b : Bool) → leb (length (recordsOf image base ps)) (recordsLength / 12) ≡ b → pick b accepted short .answer ≡ Accepted P R
+          → Took (pick b accepted short)
+      go true l i = accepts ps q g (leb-true _ _ l) i
+      go false l i = refused-no (RecordsShort (length (recordsOf image base ps))) refl i
 
-  pub took : translation image base entryList placesLength recordsLength position .answer ≡ Accepted P R
-      → Took (translation image base entryList placesLength recordsLength position)
+  pub took : translation image base entryList placesLength recordsLength .answer ≡ Accepted P R
+      → Took (translation image base entryList placesLength recordsLength)
   unfolding translation
   took e =
-      past-test (badLength (length image)) (ImageLength (length image)) _ refl
-      (λ q1. past-test (not (eqb (base % 4) 0)) (Base base) _ refl
-      (λ q2. past-test (badCount (length (numbersIn entryList))) (Entry 0) _ refl
-      (λ q3. past-test (anyBad base (length image) (numbersIn entryList)) (Entry position) _ refl
-      (λ q4. took-walk q4 (placesOf image base (placeRoom placesLength) (numbersIn entryList)) refl)))) e
+      let es = numbersIn entryList in
+      let bad = firstBad base (length image) 0 es in
+      past-test (badLength (length image)) _ _ refl
+      (λ q1. past-test (not (eqb (base % 4) 0)) _ _ refl
+      (λ q2. past-test (badCount (length es)) _ _ refl
+      (λ q3. past-test (not (eqb bad 0)) _ _ refl
+      (λ q4. took-walk (eqb-true bad 0 (not-false (eqb bad 0) q4)) (placesOf image base (placeRoom placesLength) es) refl)))) e

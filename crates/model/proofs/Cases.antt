@@ -1,5 +1,5 @@
 -- The cases hold: one theorem over the rows of the table.
-use Rattle.model.specs.Translation.{answerNumbers, badLength, badCount, badEntry, anyBad, placeRoom, filled, refusal, acceptance, fromWalk, translation}
+use Rattle.model.specs.Translation.{answerNumbers, badLength, badCount, badEntry, firstBad, placeRoom, filled, refusal, acceptance, fromWalk, translation}
 use Rattle.model.specs.Walk.{grow, grown, tested, handle, walk, placesOf}
 use Rattle.model.specs.Records.{numbersIn, rowAt, rowsIn, recordOf, recordAt, recordsIn, biccGroup, groupOf, heldGroupOf, groupAt, heldGroupAt, group, past, numbered, put, tableNumbers, recordNumbers, recordsNumbers, first, rowsFrom, recordsFrom, rowsOf, recordsOf}
 use Rattle.model.specs.Places.{kindOf, nextOf, placeAt, samePlace, member, whichOf, biccNames, names, namesAt, followers, idleBicc, mayBeHeld, mayBeHeldAt, allowed, plains}
@@ -69,7 +69,7 @@ places-open = tt
 
 -- records, and what is handed back
 records-open : Unit {0}
-unfolding numbersIn rowAt rowsIn recordOf recordAt recordsIn biccGroup groupOf heldGroupOf groupAt heldGroupAt group past numbered put tableNumbers recordNumbers recordsNumbers first rowsFrom recordsFrom rowsOf recordsOf answerNumbers badLength badCount badEntry anyBad placeRoom filled refusal acceptance fromWalk translation
+unfolding numbersIn rowAt rowsIn recordOf recordAt recordsIn biccGroup groupOf heldGroupOf groupAt heldGroupAt group past numbered put tableNumbers recordNumbers recordsNumbers first rowsFrom recordsFrom rowsOf recordsOf answerNumbers badLength badCount badEntry firstBad placeRoom filled refusal acceptance fromWalk translation
 records-open = tt
 
 -- the new core

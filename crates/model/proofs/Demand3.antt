@@ -230,19 +230,19 @@ pub record Laid (image : List ℕ) (base : ℕ) (entryList : List ℕ) (cap : �
   pub places-bytes : Below 256 places
   pub records-bytes : Below 256 records
 
-pub laid : (image : List ℕ) (base : ℕ) (entryList : List ℕ) (placesLength recordsLength position placeCount recordCount : ℕ)
-    → Below 256 image → Below 256 entryList → (handed : Handed) → handed ≡ translation image base entryList placesLength recordsLength position
+pub laid : (image : List ℕ) (base : ℕ) (entryList : List ℕ) (placesLength recordsLength placeCount recordCount : ℕ)
+    → Below 256 image → Below 256 entryList → (handed : Handed) → handed ≡ translation image base entryList placesLength recordsLength
     → handed .answer ≡ Accepted placeCount recordCount
     → (places records : List ℕ) → places ≡ take (16 * placeCount) (handed .places) → records ≡ take (12 * recordCount) (handed .records)
     → Laid image base entryList (placeRoom placesLength) places records
 unfolding placeRoom
-laid image base entryList placesLength recordsLength position placeCount recordCount ib eb handed eh answered places records et er =
+laid image base entryList placesLength recordsLength placeCount recordCount ib eb handed eh answered places records et er =
     let es = numbersIn entryList in
-    let tk : Took image base entryList placesLength recordsLength position placeCount recordCount
-    (translation image base entryList placesLength recordsLength position) =
-    took image base entryList placesLength recordsLength position placeCount recordCount (ap (λ (z : Handed). z .answer) (sym eh) ∙ answered) in
+    let tk : Took image base entryList placesLength recordsLength placeCount recordCount
+    (translation image base entryList placesLength recordsLength) =
+    took image base entryList placesLength recordsLength placeCount recordCount (ap (λ (z : Handed). z .answer) (sym eh) ∙ answered) in
     let C : Closed image base (tk .ps) =
-    places-closed image base (placeRoom placesLength) es (tk .ps) (entries-aligned base (length image) es (numbers-lt entryList eb) (tk .good)) (tk .made) in
+    places-closed image base (placeRoom placesLength) es (tk .ps) (entries-aligned base (length image) 0 es (numbers-lt entryList eb) (tk .good)) (tk .made) in
     let few : length (tk .ps) ≤ 8192 = omega (arith, places-fit image base (placeRoom placesLength) es (tk .ps) (tk .made)) in
     let p : places ≡ bytesOf (tableNumbers (rowsOf image base (tk .ps))) = et ∙ ap (λ (z : Handed). take (16 * placeCount) (z .places)) eh ∙ tk .table-bytes in
     let r : records ≡ bytesOf (recordsNumbers (recordsOf image base (tk .ps))) =
@@ -281,23 +281,23 @@ begun-trail image base entryList cap places records L y h db k = rw (finds image
 
 pub demand3 : Demand3
 unfolding Demand3
-demand3 image base entryList placesLength recordsLength position placeCount recordCount ib eb handed eh answered x y hx hy db k lk places records et er =
-    let L = laid image base entryList placesLength recordsLength position placeCount recordCount ib eb handed eh answered places records et er in
+demand3 image base entryList placesLength recordsLength placeCount recordCount ib eb handed eh answered x y hx hy db k lk places records et er =
+    let L = laid image base entryList placesLength recordsLength placeCount recordCount ib eb handed eh answered places records et er in
     from-begin image base db (numbersIn entryList) (placeRoom placesLength) (L .ps) records places (L .made) (L .closed) (L .few) (L .table-read)
     (L .records-read) k lk x y hy
 
 -- demand 2: "The places .. of an accepted image are those that 01's rules make, and all of them."
-pub all-of-them : (image : List ℕ) (base : ℕ) (entryList : List ℕ) (placesLength recordsLength position placeCount recordCount : ℕ) → Below 256 entryList
-    → translation image base entryList placesLength recordsLength position .answer ≡ Accepted placeCount recordCount
+pub all-of-them : (image : List ℕ) (base : ℕ) (entryList : List ℕ) (placesLength recordsLength placeCount recordCount : ℕ) → Below 256 entryList
+    → translation image base entryList placesLength recordsLength .answer ≡ Accepted placeCount recordCount
     → (ps : List Place) × ((placesOf image base (placeRoom placesLength) (numbersIn entryList) ≡ table ps)
     × ((x : Place) → (member ps x ≡ true) ↔ Makes image base (numbersIn entryList) x))
-all-of-them image base entryList placesLength recordsLength position placeCount recordCount eb e =
+all-of-them image base entryList placesLength recordsLength placeCount recordCount eb e =
     let es = numbersIn entryList in
-    let tk : Took image base entryList placesLength recordsLength position placeCount recordCount
-    (translation image base entryList placesLength recordsLength position) =
-    took image base entryList placesLength recordsLength position placeCount recordCount e in
+    let tk : Took image base entryList placesLength recordsLength placeCount recordCount
+    (translation image base entryList placesLength recordsLength) =
+    took image base entryList placesLength recordsLength placeCount recordCount e in
     let C : Closed image base (tk .ps) =
-    places-closed image base (placeRoom placesLength) es (tk .ps) (entries-aligned base (length image) es (numbers-lt entryList eb) (tk .good)) (tk .made) in (
+    places-closed image base (placeRoom placesLength) es (tk .ps) (entries-aligned base (length image) 0 es (numbers-lt entryList eb) (tk .good)) (tk .made) in (
       tk .ps,
       (
         tk .made,

@@ -249,13 +249,13 @@ accepted-back (RecordsShort n) P R e = let z : _≡_ {A = ℕ} 6 0 = cc in absur
 pub interface : Interface
 unfolding Interface Demand3
 interface image base entryList placesLength recordsLength placeCount recordCount table list ib eb call b c bb bd cb cd p q hp hq db k lk places records et er =
-    let handed : Handed = translation image base entryList placesLength recordsLength (call .position) in
-    let numbers : answerNumbers (handed .answer) ≡ 0 ∷ placeCount ∷ recordCount ∷ [] = sym (ap (λ (x : Back). x .numbers) (call .all)) in
+    let handed : Handed = translation image base entryList placesLength recordsLength in
+    let numbers : answerNumbers (handed .answer) ≡ 0 ∷ placeCount ∷ recordCount ∷ [] = sym (ap (λ (x : Back). x .numbers) call) in
     let accepted : handed .answer ≡ Accepted placeCount recordCount = accepted-back (handed .answer) placeCount recordCount numbers in
-    let et′ : places ≡ take (16 * placeCount) (handed .places) = et ∙ ap (λ (x : Back). take (16 * placeCount) (x .places)) (call .all) in
-    let er′ : records ≡ take (12 * recordCount) (handed .records) = er ∙ ap (λ (x : Back). take (12 * recordCount) (x .records)) (call .all) in
-    let L = laid image base entryList placesLength recordsLength (call .position) placeCount recordCount ib eb handed refl accepted places records et′ er′ in
+    let et′ : places ≡ take (16 * placeCount) (handed .places) = et ∙ ap (λ (x : Back). take (16 * placeCount) (x .places)) call in
+    let er′ : records ≡ take (12 * recordCount) (handed .records) = er ∙ ap (λ (x : Back). take (12 * recordCount) (x .records)) call in
+    let L = laid image base entryList placesLength recordsLength placeCount recordCount ib eb handed refl accepted places records et′ er′ in
     on-bytes image base entryList (placeRoom placesLength) places records L db b c bb bd cb cd p q
     (placed-lt image base entryList (placeRoom placesLength) places records L p hp) hq k
-    (demand3 image base entryList placesLength recordsLength (call .position) placeCount recordCount ib eb handed refl accepted (startOf p b) (startOf q c) hp hq
+    (demand3 image base entryList placesLength recordsLength placeCount recordCount ib eb handed refl accepted (startOf p b) (startOf q c) hp hq
     db k lk places records et′ er′)

@@ -53,7 +53,7 @@ bytesBack h = answerNumbers (h .answer) ++ h .places ++ h .records
 
 -- the translation of an image of words at base 0, for entries and the lengths of both buffers: the answer's numbers
 unfoldable pub given : List ℕ → List ℕ → ℕ → ℕ → Handed
-given words entries placesLength recordsLength = translation (bytesOf words) 0 (bytesOf entries) placesLength recordsLength 0
+given words entries placesLength recordsLength = translation (bytesOf words) 0 (bytesOf entries) placesLength recordsLength
 
 unfoldable pub answered : List ℕ → ℕ → ℕ → List ℕ
 answered words placesLength recordsLength = answerNumbers (given words (0 ∷ []) placesLength recordsLength .answer)
@@ -177,8 +177,8 @@ cases =
     ∷ row 11 (answered p1 47 12288) (5 ∷ 12 ∷ 0 ∷ [])
     ∷ row 11 (answered p1 8192 47) (6 ∷ 4 ∷ 0 ∷ [])
     -- "Length 16,384 passes 1, 16,388 doesn't; 64 entries pass, 65 don't."
-    ∷ row 11 (answerNumbers (translation (replicate 16384 0) 0 (bytesOf (0 ∷ [])) 16 12 0 .answer)) (0 ∷ 1 ∷ 1 ∷ [])
-    ∷ row 11 (answerNumbers (translation (replicate 16388 0) 0 (bytesOf (0 ∷ [])) 16 12 0 .answer)) (1 ∷ 16388 ∷ 0 ∷ [])
+    ∷ row 11 (answerNumbers (translation (replicate 16384 0) 0 (bytesOf (0 ∷ [])) 16 12 .answer)) (0 ∷ 1 ∷ 1 ∷ [])
+    ∷ row 11 (answerNumbers (translation (replicate 16388 0) 0 (bytesOf (0 ∷ [])) 16 12 .answer)) (1 ∷ 16388 ∷ 0 ∷ [])
     ∷ row 11 (answerNumbers (given (0 ∷ []) (replicate 64 0) 16 12 .answer)) (0 ∷ 1 ∷ 1 ∷ [])
     ∷ row 11 (answerNumbers (given (0 ∷ []) (replicate 65 0) 16 12 .answer)) (3 ∷ 0 ∷ 0 ∷ [])
     -- further readings that tempt and are wrong: linking p + 8; jmpl's address taken after rd is written; alignment tested after fit
@@ -231,14 +231,19 @@ cases =
     -- the bytes that such a begin leaves: all registers and flags as they were, record 0, held address 0, end 6 and the address
     ∷ row 0 (numbersIn (newBegins [] 0 16 8 (bytesOf (replicate 37 7)) .state)) (0 ∷ replicate 31 7 ++ (7 ∷ 0 ∷ 0 ∷ 6 ∷ 8 ∷ []))
     -- each refusal, with both buffers: "Every refusal fills both buffers with 0"
-    ∷ row 0 (bytesBack (translation [] 0 (bytesOf (0 ∷ [])) 3 5 0)) (1 ∷ 0 ∷ 0 ∷ replicate 8 0)
-    ∷ row 0 (bytesBack (translation (1 ∷ 2 ∷ []) 0 (bytesOf (0 ∷ [])) 3 5 0)) (1 ∷ 2 ∷ 0 ∷ replicate 8 0)
-    ∷ row 0 (bytesBack (translation (bytesOf p1) 2 (bytesOf (0 ∷ [])) 48 48 0)) (2 ∷ 2 ∷ 0 ∷ replicate 96 0)
-    ∷ row 0 (bytesBack (translation (bytesOf p1) 0 (bytesOf []) 48 48 0)) (3 ∷ 0 ∷ 0 ∷ replicate 96 0)
-    ∷ row 0 (bytesBack (translation (bytesOf p1) 0 (bytesOf (0 ∷ 16 ∷ [])) 48 48 2)) (3 ∷ 2 ∷ 0 ∷ replicate 96 0)
+    ∷ row 0 (bytesBack (translation [] 0 (bytesOf (0 ∷ [])) 3 5)) (1 ∷ 0 ∷ 0 ∷ replicate 8 0)
+    ∷ row 0 (bytesBack (translation (1 ∷ 2 ∷ []) 0 (bytesOf (0 ∷ [])) 3 5)) (1 ∷ 2 ∷ 0 ∷ replicate 8 0)
+    ∷ row 0 (bytesBack (translation (bytesOf p1) 2 (bytesOf (0 ∷ [])) 48 48)) (2 ∷ 2 ∷ 0 ∷ replicate 96 0)
+    ∷ row 0 (bytesBack (given p1 [] 48 48)) (3 ∷ 0 ∷ 0 ∷ replicate 96 0)
+    ∷ row 0 (bytesBack (given p1 (0 ∷ 16 ∷ []) 48 48)) (3 ∷ 2 ∷ 0 ∷ replicate 96 0)
     ∷ row 0 (bytesBack (given p7 (0 ∷ []) 48 48)) (4 ∷ 4 ∷ 0 ∷ replicate 96 0)
     ∷ row 0 (bytesBack (given p1 (0 ∷ []) 47 48)) (5 ∷ 12 ∷ 0 ∷ replicate 95 0)
     ∷ row 0 (bytesBack (given p1 (0 ∷ []) 48 47)) (6 ∷ 4 ∷ 0 ∷ replicate 95 0)
+    -- 02, N8: "that of the first entry, in list order, that is misaligned or outside the image; a bad count still gives 0"
+    ∷ row 0 (answerNumbers (given p1 (0 ∷ 2 ∷ 16 ∷ []) 48 48 .answer)) (3 ∷ 2 ∷ 0 ∷ [])
+    ∷ row 0 (answerNumbers (given p1 (0 ∷ 16 ∷ 2 ∷ []) 48 48 .answer)) (3 ∷ 2 ∷ 0 ∷ [])
+    ∷ row 0 (answerNumbers (given p1 (replicate 63 0 ++ (6 ∷ [])) 48 48 .answer)) (3 ∷ 64 ∷ 0 ∷ [])
+    ∷ row 0 (answerNumbers (given p1 (replicate 65 2) 48 48 .answer)) (3 ∷ 0 ∷ 0 ∷ [])
     ∷ []
 
 pub noCase : Row

@@ -88,9 +88,9 @@ pub record Holds {S T : Type 0} (placed : ℕ → Type 0) (inside : ℕ → Bool
 unfoldable pub Demand3 : Type 0
 Demand3 =
     -- "Take any accepted image, base and entry list", as bytes, whatever the lengths of the buffers
-    (image : List ℕ) (base : ℕ) (entryList : List ℕ) (placesLength recordsLength position placeCount recordCount : ℕ)
+    (image : List ℕ) (base : ℕ) (entryList : List ℕ) (placesLength recordsLength placeCount recordCount : ℕ)
     → Below 256 image → Below 256 entryList
-    → (handed : Handed) → handed ≡ translation image base entryList placesLength recordsLength position
+    → (handed : Handed) → handed ≡ translation image base entryList placesLength recordsLength
     → handed .answer ≡ Accepted placeCount recordCount
     -- "for each core, any address with a plain place to begin at and any registers, flags and data"
     → (x y : Start) → Placed image base entryList (x .address) → Placed image base entryList (y .address)

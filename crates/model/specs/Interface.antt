@@ -15,7 +15,7 @@ use Rattle.machine.specs.Effect.{Machine, machine}
 use Rattle.model.specs.Run.{dataOf}
 use Rattle.model.specs.OldCore.{inImage}
 use Rattle.model.specs.Records.{rowsIn, recordsIn}
-use Rattle.model.specs.Translation.{HandsBack}
+use Rattle.model.specs.Translation.{back, returned, translation}
 use Rattle.model.specs.Trails.{Core}
 use Rattle.model.specs.Cores.{naming, goesBy, Start}
 use Rattle.model.specs.Demand3.{Placed, Holds}
@@ -84,7 +84,7 @@ Interface =
     -- what the contract of `pijorrel_translate` says of an accepted call: number 0, place count, record count, and both buffers
     (image : List ℕ) (base : ℕ) (entryList : List ℕ) (placesLength recordsLength placeCount recordCount : ℕ) (table list : List ℕ)
     → Below 256 image → Below 256 entryList
-    → HandsBack image base entryList placesLength recordsLength (0 ∷ placeCount ∷ recordCount ∷ []) table list
+    → back (0 ∷ placeCount ∷ recordCount ∷ []) table list ≡ returned (translation image base entryList placesLength recordsLength)
     -- for each core any bytes of a state and any data, and an address with a plain place
     → (b b′ : Bytes) → Below 256 (b .state) → Below 256 (b .area) → Below 256 (b′ .state) → Below 256 (b′ .area)
     → (a a′ : ℕ) → Placed image base entryList a → Placed image base entryList a′

@@ -5,6 +5,7 @@ pub mod Walk
 pub mod Records
 pub mod NewCore
 pub mod Translation
+pub mod FirstBadEntry
 pub mod Trails
 pub mod Cores
 pub mod Demand3

@@ -1,10 +1,9 @@
 -- 01, What the translator hands back: from the bytes of image and entries, the base and the lengths of both buffers.
-use Prim.Native.Nat.{ℕ, suc, _-_, _/_, _%_, _<_, min}
-use mathlib.Core.Path.{_≡_}
-use mathlib.Core.Bool.{Bool, true, false, _&&_, _||_, not}
+use Prim.Native.Nat.{ℕ, suc, _-_, _/_, _%_, min}
+use mathlib.Core.Bool.{Bool, _&&_, _||_, not}
 use mathlib.Core.List.{List, [], _∷_, _++_}
 use lib.Dec.{eqb, leb, ltb}
-use lib.ListN.{length, getD, replicate}
+use lib.ListN.{length, replicate}
 use Rattle.numbers.specs.Choice.{pick}
 use Rattle.numbers.specs.Number.{bytesOf}
 use Rattle.model.specs.declared.Place.{Place}
@@ -42,16 +41,11 @@ badCount n = eqb n 0 || ltb 64 n
 unfoldable pub badEntry : ℕ → ℕ → ℕ → Bool
 badEntry base size e = not (eqb (e % 4) 0 && inImage base size e)
 
-unfoldable pub anyBad : ℕ → ℕ → List ℕ → Bool
-anyBad base size [] = false
-anyBad base size (e ∷ es) = pick (badEntry base size e) true (anyBad base size es)
-
--- "where the count is good, the position in refusal 3 may be that of any bad entry, and is always that of one", counted from 1
-pub record BadAt (base size : ℕ) (es : List ℕ) (position : ℕ) : Type 0 where
-  pub before : ℕ
-  pub from-one : position ≡ suc before
-  pub there : before < length es
-  pub bad : badEntry base size (getD es before 0) ≡ true
+-- 02, N8: "Refusal 3's position is to be that of the first entry, in list order, that is misaligned or outside the image"; 01: "counted
+-- from 1". The entries here come after k others; 0 where none of them is bad
+unfoldable pub firstBad : ℕ → ℕ → ℕ → List ℕ → ℕ
+firstBad base size k [] = 0
+firstBad base size k (e ∷ es) = pick (badEntry base size e) (suc k) (firstBad base size (suc k) es)
 
 -- 5: "a new place exceeds the table (four numbers each ..) or is the 8,193rd"
 unfoldable pub placeRoom : ℕ → ℕ
@@ -61,11 +55,11 @@ placeRoom size = min (size / 16) 8192
 unfoldable pub filled : List ℕ → ℕ → List ℕ
 filled numbers size = bytesOf numbers ++ replicate (size - length (bytesOf numbers)) 0
 
-module _ (image : List ℕ) (base : ℕ) (entries : List ℕ) (placesLength recordsLength position : ℕ) where
-  -- "Every refusal fills both buffers with 0"
-  unfoldable pub refusal : Answer → Handed
-  refusal a = record { answer = a; places = replicate placesLength 0; records = replicate recordsLength 0 }
+-- "Every refusal fills both buffers with 0"
+unfoldable pub refusal : ℕ → ℕ → Answer → Handed
+refusal placesLength recordsLength a = record { answer = a; places = replicate placesLength 0; records = replicate recordsLength 0 }
 
+module _ (image : List ℕ) (base placesLength recordsLength : ℕ) where
   unfoldable pub acceptance : List Place → Handed
   acceptance ps =
       record {
@@ -78,20 +72,23 @@ module _ (image : List ℕ) (base : ℕ) (entries : List ℕ) (placesLength reco
   unfoldable pub fromWalk : Walked → Handed
   fromWalk (table ps) =
       pick (leb (length (recordsOf image base ps)) (recordsLength / 12)) (acceptance ps)
-      (refusal (RecordsShort (length (recordsOf image base ps))))
-  fromWalk (refused n a) = pick (eqb n 4) (refusal (Forbidden a)) (refusal (NoRoom a))
-  fromWalk endless = refusal (NoRoom 0)
+      (refusal placesLength recordsLength (RecordsShort (length (recordsOf image base ps))))
+  fromWalk (refused n a) = pick (eqb n 4) (refusal placesLength recordsLength (Forbidden a)) (refusal placesLength recordsLength (NoRoom a))
+  fromWalk endless = refusal placesLength recordsLength (NoRoom 0)
 
-  -- "Order: 1, 2, 3. In the walk .. the first event of 4 or 5 decides; 6 comes last."
-  unfoldable pub translation : Handed
-  translation =
-      pick (badLength (length image)) (refusal (ImageLength (length image)))
-      (pick (not (eqb (base % 4) 0)) (refusal (Base base))
-      (pick (badCount (length (numbersIn entries))) (refusal (Entry 0))
-      (pick (anyBad base (length image) (numbersIn entries)) (refusal (Entry position))
-      (fromWalk (placesOf image base (placeRoom placesLength) (numbersIn entries))))))
+-- "Order: 1, 2, 3. In the walk .. the first event of 4 or 5 decides; 6 comes last." 02, N8: "a bad count still gives 0"
+unfoldable pub translation : List ℕ → ℕ → List ℕ → ℕ → ℕ → Handed
+translation image base entries placesLength recordsLength =
+    let refuse = refusal placesLength recordsLength in
+    let es = numbersIn entries in
+    let bad = firstBad base (length image) 0 es in
+    pick (badLength (length image)) (refuse (ImageLength (length image)))
+    (pick (not (eqb (base % 4) 0)) (refuse (Base base))
+    (pick (badCount (length es)) (refuse (Entry 0))
+    (pick (not (eqb bad 0)) (refuse (Entry bad))
+    (fromWalk image base placesLength recordsLength (placesOf image base (placeRoom placesLength) es)))))
 
--- what the loader's routine returns: the answer's number and values, and the bytes of both buffers
+-- what the loader's routine returns and leaves: the answer's number and values, and the bytes of both buffers
 pub record Back : Type 0 where
   pub numbers : List ℕ
   pub places : List ℕ
@@ -102,18 +99,3 @@ back numbers places records = record { numbers = numbers; places = places; recor
 
 abbrev pub returned : Handed → Back
 returned h = back (answerNumbers (h .answer)) (h .places) (h .records)
-
--- "One number is free: where the count is good, the position in refusal 3 may be that of any bad entry, and is always that of one.":
--- what holds of an answer holds for some such position
-pub record Freely (image : List ℕ) (base : ℕ) (entries : List ℕ) (holds : ℕ → Type 0) : Type 0 where
-  pub position : ℕ
-  pub bad : anyBad base (length image) (numbersIn entries) ≡ true → BadAt base (length image) (numbersIn entries) position
-  pub all : holds position
-
--- "What a contract says, for every input, of the answer and of each buffer: an equation where these rules settle it, else the free part by
--- name and all that holds of it." Who reads this first: start at `translation`, which says what is handed back; here its free position is
--- named, and the answer becomes three numbers.
-abbrev pub HandsBack : List ℕ → ℕ → List ℕ → ℕ → ℕ → List ℕ → List ℕ → List ℕ → Type 0
-HandsBack image base entries placesLength recordsLength numbers places records =
-    Freely image base entries
-    (λ position. back numbers places records ≡ returned (translation image base entries placesLength recordsLength position))

@@ -98,7 +98,7 @@ pub enum Answer {
     Accepted(u32, u32),
     ImageLength(u64),
     Base(u32),
-    // the position of a bad entry, counted from 1, or 0 where the count is bad
+    // the position of the first bad entry, counted from 1, or 0 where the count is bad
     Entry(u32),
     Forbidden(u32),
     NoRoom(u32),

@@ -2,7 +2,7 @@
 ghost use mathlib.Core.Path.{_≡_};
 ghost use mathlib.Core.List.{[], _∷_};
 ghost use lib.ListN.{length};
-ghost use Rattle.model.specs.Translation.{answerNumbers, HandsBack};
+ghost use Rattle.model.specs.Translation.{answerNumbers, back, returned, translation};
 use model::Answer;
 
 // 01's number for an answer, and the values returned with it.
@@ -50,7 +50,7 @@ pub extern "C" fn pijorrel_translate(
     places: &mut [u8],
     records: &mut [u8],
 ) -> PijorrelAnswer
-    ensures { λ r. ⌜ HandsBack (now (image .entry)) base (now (entries .entry)) (length (now (places .entry))) (length (now (records .entry))) (r .number ∷ r .first ∷ r .second ∷ []) (now (places .exit)) (now (records .exit)) ⌝ }
+    ensures { λ r. ⌜ back (r .number ∷ r .first ∷ r .second ∷ []) (now (places .exit)) (now (records .exit)) ≡ returned (translation (now (image .entry)) base (now (entries .entry)) (length (now (places .entry))) (length (now (records .entry)))) ⌝ }
 {
     numbers_of(translator::translate(image, base, entries, places, records))
 }

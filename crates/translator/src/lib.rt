@@ -1,15 +1,13 @@
 // The translator: from an image and its entries, the place table and the records, or a refusal.
 ghost use mathlib.Core.Path.{_≡_};
-ghost use Prim.Native.Nat.{ℕ, _*_, _≤_};
-ghost use mathlib.Core.List.{List};
+ghost use Prim.Native.Nat.{_*_, _≤_};
 ghost use lib.ListN.{length};
 ghost use Rattle.numbers.specs.Number.{numbersOf};
-ghost use Rattle.model.specs.Translation.{badLength, badCount, badEntry, placeRoom, fromWalk, translation};
+ghost use Rattle.model.specs.Translation.{badLength, badCount, badEntry, firstBad, placeRoom, fromWalk, translation};
 ghost use Rattle.model.specs.Walk.{table};
-ghost use Rattle.model.specs.Records.{numbersIn};
 ghost use Rattle.places.specs.Table.{placesIn};
 ghost use Rattle.places.specs.Index.{Tabled};
-ghost use Rattle.translator.specs.Handing.{badFrom, placesCounted, recordsCounted, Attempted, Translates};
+ghost use Rattle.translator.specs.Handing.{placesCounted, recordsCounted, handed, cleared};
 use model::Answer;
 use places::walk::find_places;
 use places::worklist::Found;
@@ -53,7 +51,7 @@ fn bad_entry(base: u32, size: usize, e: u32) -> bool
 // The position of the first bad entry of k, counted from 1; 0 if none is bad.
 fn bad_position(entries: &[u8], k: usize, base: u32, size: usize) -> u32
     requires { ⌜ (4 * k ≤ length (now entries)) × (k ≤ 64) ⌝ }
-    ensures { λ r. ⌜ r ≡ badFrom base size 0 (numbersOf (now (entries .entry)) k) ⌝ }
+    ensures { λ r. ⌜ r ≡ firstBad base size 0 (numbersOf (now (entries .entry)) k) ⌝ }
 {
     let mut j: usize = 0;
     while j < k {
@@ -86,7 +84,7 @@ fn finish(
     records: &mut [u8],
 ) -> Answer
     requires { ⌜ Tabled (now places) count (now heads) (now links) ⌝ }
-    ensures { λ r. ⌜ ((es : List ℕ) (position : ℕ) → Attempted (fromWalk (now (image .entry)) base es (length (now (places .entry))) (length (now (records .entry))) position (table (placesIn (now (places .entry)) count))) r (now (places .exit)) (now (records .exit))) ⌝ }
+    ensures { λ r. ⌜ cleared r (now (places .exit)) (now (records .exit)) ≡ fromWalk (now (image .entry)) base (length (now (places .entry))) (length (now (records .entry))) (table (placesIn (now (places .entry)) count)) ⌝ }
 {
     let total = layout::lay_out(image, base, places, count);
     if records.len() / 12 < total {
@@ -96,9 +94,9 @@ fn finish(
     Answer::Accepted(count as u32, total as u32)
 }
 
-// The translation, with what it leaves past the numbers free.
+// The translation before its buffers are cleared: nothing is said of the bytes past what it counts.
 fn attempt(image: &[u8], base: u32, entries: &[u8], places: &mut [u8], records: &mut [u8]) -> Answer
-    ensures { λ r. ⌜ Attempted (translation (now (image .entry)) base (now (entries .entry)) (length (now (places .entry))) (length (now (records .entry))) (badFrom base (length (now (image .entry))) 0 (numbersIn (now (entries .entry))))) r (now (places .exit)) (now (records .exit)) ⌝ }
+    ensures { λ r. ⌜ cleared r (now (places .exit)) (now (records .exit)) ≡ translation (now (image .entry)) base (now (entries .entry)) (length (now (places .entry))) (length (now (records .entry))) ⌝ }
 {
     let size = image.len();
     if bad_length(size) {
@@ -162,7 +160,7 @@ pub fn translate(
     places: &mut [u8],
     records: &mut [u8],
 ) -> Answer
-    ensures { λ r. ⌜ Translates (now (image .entry)) base (now (entries .entry)) (length (now (places .entry))) (length (now (records .entry))) r (now (places .exit)) (now (records .exit)) ⌝ }
+    ensures { λ r. ⌜ handed r (now (places .exit)) (now (records .exit)) ≡ translation (now (image .entry)) base (now (entries .entry)) (length (now (places .entry))) (length (now (records .entry))) ⌝ }
 {
     let a = attempt(image, base, entries, places, records);
     numbers::clear_from(places, 16 * places_counted(a));

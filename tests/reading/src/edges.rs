@@ -1,5 +1,5 @@
 //! Calls of the translator at the edges of 01's table of answers, and inputs of the listing program: for every
-//! refusal the last value that passes and the first that does not. Each has its answer, worked out by hand from 01.
+//! refusal the last value that passes and the first that does not. Each has its answer, worked out by hand from 01 and 02.
 
 use crate::files::{listing_case, translate_case};
 use crate::random::TranslateCall;
@@ -23,11 +23,10 @@ const LISTED: [u32; 4] = [0x1080_0003, ADD, ILLEGAL, TA];
 const PLACE: usize = 16;
 const RECORD: usize = 12;
 
-/// A call, and 01's answer: number, first, second. Where several entries are bad, first is the lowest position.
+/// A call, and its answer: number, first, second.
 pub struct Edge {
     pub call: TranslateCall,
     pub answer: (u32, u64, u64),
-    pub several_bad: bool,
 }
 
 /// A branch of this kind over so many words.
@@ -46,7 +45,6 @@ fn edge(words: &[u32], base: u32, entries: &[u32], answer: (u32, u64, u64)) -> E
             records_length: 160 * RECORD,
         },
         answer,
-        several_bad: false,
     }
 }
 
@@ -67,11 +65,6 @@ impl Edge {
     fn lent(mut self, places: usize, records: usize) -> Edge {
         self.call.places_length = places;
         self.call.records_length = records;
-        self
-    }
-
-    fn several_bad(mut self) -> Edge {
-        self.several_bad = true;
         self
     }
 }
@@ -114,15 +107,14 @@ fn entry_counts() -> Vec<Edge> {
     let all: Vec<u32> = (0..65).map(|k| base + 4 * k).collect();
     let of =
         |length: usize, answer| edge(&words, base, &all[..length / 4], answer).entries_of(length);
-    let accepted = [4, 5, 7, 8, 252, 255, 256, 257, 259]
+    let accepted = [4, 5, 6, 7, 8, 252, 253, 254, 255, 256, 257, 258, 259]
         .map(|length| of(length, (0, length as u64 / 4, length as u64 / 4)));
     let refused = [0, 1, 2, 3, 260, 261, 263].map(|length| of(length, (3, 0, 0)));
     let others = [
         edge(&words, base, &[0; 1000], (3, 0, 0)),
         edge(&words, base, &[base; 64], (0, 1, 1)),
         edge(&words, base, &[base; 65], (3, 0, 0)),
-        // A bad count comes before a bad entry, and 3 before 5 and 6.
-        edge(&words, base, &[base + 2; 65], (3, 0, 0)),
+        // 3 comes before 5 and 6.
         edge(&words, base, &[base; 65], (3, 0, 0)).lent(0, 0),
     ];
     accepted.into_iter().chain(refused).chain(others).collect()
@@ -162,8 +154,8 @@ fn entries_around(base: u32) -> Vec<Edge> {
     accepted.into_iter().chain(refused).collect()
 }
 
-/// Refusal 3, the position: lists with exactly one bad entry, then lists with several.
-fn bad_positions() -> Vec<Edge> {
+/// Refusal 3, the position: lists with exactly one bad entry.
+fn one_bad_entry() -> Vec<Edge> {
     let words = [TA; 4];
     let one_bad = |count: usize, position: usize, bad| {
         let mut entries = vec![12; count];
@@ -183,19 +175,65 @@ fn bad_positions() -> Vec<Edge> {
     ];
     let outside = positions.map(|(count, position)| one_bad(count, position, 16));
     let misaligned = positions.map(|(count, position)| one_bad(count, position, 2));
-    let others = [
-        // 3 comes before 5 and 6.
-        edge(&words, 0, &[0, 16], (3, 2, 0)).lent(0, 0),
-        edge(&words, 0, &[16, 0, 2], (3, 1, 0)).several_bad(),
-        edge(&words, 0, &[0, 2, 16], (3, 2, 0)).several_bad(),
-        edge(&words, 0, &[0, 4, 8, 13, 12, 0xFFFF_FFFC], (3, 4, 0)).several_bad(),
-        edge(&words, 0, &[16; 64], (3, 1, 0)).several_bad(),
-    ];
+    // A tail is no entry, whatever its bytes; and 3 comes before 5 and 6.
+    let tails = [1, 2, 3].map(|tail| one_bad(2, 2, 16).entries_of(8 + tail));
+    let first = [one_bad(2, 2, 16).lent(0, 0)];
     outside
         .into_iter()
         .chain(misaligned)
-        .chain(others)
+        .chain(tails)
+        .chain(first)
         .collect()
+}
+
+/// Refusal 3, 02, N8: of several bad entries the first in list order is named, whichever way it is bad.
+fn several_bad_entries() -> Vec<Edge> {
+    let words = [TA; 4];
+    let (misaligned, outside) = (2, 16);
+    // 64 entries: good ones, a bad one at a position, and others bad, from there on or at the list's end alone.
+    let list = |position: usize, bad: u32, others: u32, from: usize| {
+        let mut entries = vec![12; 64];
+        entries[position - 1] = bad;
+        entries[from..].fill(others);
+        edge(&words, 0, &entries, (3, position as u64, 0))
+    };
+    let mut edges = vec![];
+    for (position, from) in [(1, 1), (1, 63), (2, 2), (2, 63), (63, 63)] {
+        edges.push(list(position, misaligned, outside, from));
+        edges.push(list(position, outside, misaligned, from));
+    }
+    let base = 0xFFFF_FFF8;
+    edges.extend([
+        edge(&words, 0, &[16, 0, 2], (3, 1, 0)),
+        edge(&words, 0, &[0, 2, 16], (3, 2, 0)),
+        edge(&words, 0, &[0, 16, 2], (3, 2, 0)),
+        edge(&words, 0, &[12, 18, 2, 16], (3, 2, 0)),
+        edge(&words, 0, &[0, 4, 8, 13, 12, 0xFFFF_FFFC], (3, 4, 0)),
+        edge(&words, 0, &[16; 64], (3, 1, 0)),
+        edge(&words, base, &[base, 4, 8, base + 2], (3, 3, 0)),
+        edge(&words, base, &[base, 4, base + 2, 8], (3, 3, 0)),
+    ]);
+    edges
+}
+
+/// Refusal 3, 02, N8: "a bad count still gives 0", whatever the entries are.
+fn bad_counts_of_bad_entries() -> Vec<Edge> {
+    let words = [TA; 4];
+    let list = |positions: &[usize], bad| {
+        let mut entries = vec![12; 65];
+        positions.iter().for_each(|at| entries[at - 1] = bad);
+        edge(&words, 0, &entries, (3, 0, 0))
+    };
+    vec![
+        list(&[1], 2),
+        list(&[1], 16),
+        list(&[33], 2),
+        list(&[65], 2),
+        list(&[65], 16),
+        list(&[2, 64], 16),
+        edge(&words, 0, &[2; 65], (3, 0, 0)),
+        edge(&words, 0, &[16; 65], (3, 0, 0)).entries_of(263),
+    ]
 }
 
 /// Refusal 4: a jmpl to register 0 and the word that it holds.
@@ -386,7 +424,9 @@ pub fn edges() -> Vec<Edge> {
         entries_around(0x1000),
         entries_around(0xFFFF_FFF8),
         entries_around(0xFFFF_FFF0),
-        bad_positions(),
+        one_bad_entry(),
+        several_bad_entries(),
+        bad_counts_of_bad_entries(),
         held_branches(),
         held_words(),
         first_events(),

@@ -17,15 +17,12 @@ fn add_areas(case: &mut Vec<u8>, areas: &[&[u8]]) {
     }
 }
 
-/// A call of the translator with this reading's answer. Where several entries are bad, the second number beside
-/// refusal 3 is 1 and the first is the lowest bad position.
+/// A call of the translator with this reading's answer.
 pub fn translate_case(call: &TranslateCall) -> Vec<u8> {
     let mut places = vec![0xFF; call.places_length];
     let mut records = vec![0xFF; call.records_length];
     let image = Image::at(call.base, &call.image);
-    let allowed = translate_call(image, &call.entries, &mut places, &mut records);
-    let answer = allowed[0];
-    let several = (allowed.len() > 1) as u32;
+    let answer = translate_call(image, &call.entries, &mut places, &mut records);
     let mut case = bytes([
         0x5452_4E53,
         call.image.len() as u32,
@@ -35,7 +32,7 @@ pub fn translate_case(call: &TranslateCall) -> Vec<u8> {
         call.records_length as u32,
         answer.number,
         answer.first as u32,
-        answer.second as u32 + several,
+        answer.second as u32,
     ]);
     add_areas(&mut case, &[&call.image, &call.entries]);
     if answer.number == 0 {

@@ -5,18 +5,18 @@ use crate::machine::Area;
 use crate::new_core::{self, Program};
 use crate::old_core::{self, Image};
 use crate::state::{decode_new, decode_old, encode_new, encode_old, NEW_STATE, OLD_STATE};
-use crate::translator::{answers, fill, translate, Answer};
+use crate::translator::{answer_of, fill, translate, Answer};
 
-/// All answers that 01 allows (several only for refusal 3 with several bad entries), and both buffers.
+/// The answer, and both buffers.
 pub fn translate_call(
     image: Image,
     entries: &[u8],
     places: &mut [u8],
     records: &mut [u8],
-) -> Vec<Answer> {
+) -> Answer {
     let outcome = translate(image, entries, places.len(), records.len());
     fill(&outcome, places, records);
-    answers(&outcome)
+    answer_of(&outcome)
 }
 
 pub fn old_begin_call(address: u32, state: &mut [u8; OLD_STATE]) {

@@ -1,7 +1,7 @@
 //! 01, "One listing in full".
 
 use crate::old_core::Image;
-use crate::translator::{answers, bytes, translate};
+use crate::translator::{answer_of, bytes, translate};
 
 /// "The program reads from standard input an image of up to 1,024 bytes, base 0, entry 0, with 512 places
 /// and 1,024 records." What it prints.
@@ -15,7 +15,7 @@ pub fn listing(input: &[u8]) -> String {
     let outcome = translate(image, &bytes([0]), 512 * 16, 1_024 * 12);
     let translation = match &outcome {
         Err(_) => {
-            let answer = answers(&outcome)[0];
+            let answer = answer_of(&outcome);
             return format!("refused detail\n{} {}\n", answer.number, answer.first);
         }
         Ok(translation) => translation,

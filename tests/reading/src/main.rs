@@ -34,7 +34,6 @@
 //!   data BYTE...                        maybe none
 //!   cut K                               1 to 12
 //!   answer NUMBER FIRST SECOND          0, place count, record count; or refusal, detail, 0
-//! ? bad POSITION...                     refusal 3, count good: all bad positions; FIRST is the lowest
 //! * place ADDRESS NEXT KIND RECORD      in place order; none for a refusal
 //! * record KIND FIRST SECOND            in record order; none for a refusal
 //! * old ADDRESS R0 ... R31 FLAGS BYTE...   an entry of the old core's trail
@@ -58,8 +57,8 @@
 //! K + 1 would come, or up to the end, the step that ended the run included. Every second case begins at a
 //! transfer of control with another in its delay slot: all pairings in turn, in 144 cases.
 //!
-//! `translate` prints the lines answer, bad, place and record of such a case; the lent buffers have room for
-//! 8,192 places and all of their records.
+//! `translate` prints the lines answer, place and record of such a case; the lent buffers have room for 8,192
+//! places and all of their records.
 
 use std::collections::BTreeMap;
 use std::env;
@@ -78,7 +77,7 @@ use reading::random::{
     random_translate_call, Program, Random,
 };
 use reading::trails::{Entry, Trail};
-use reading::translator::{answers, bytes, translate, Refusal, Translation};
+use reading::translator::{answer_of, bytes, translate, Refusal, Translation};
 
 fn main() -> ExitCode {
     let arguments: Vec<String> = env::args().skip(1).collect();
@@ -183,12 +182,9 @@ fn print_asked(out: &mut impl Write, asked: &Asked) -> io::Result<()> {
 }
 
 fn print_outcome(out: &mut impl Write, outcome: &Result<Translation, Refusal>) -> io::Result<()> {
-    let answer = answers(outcome)[0];
+    let answer = answer_of(outcome);
     let numbers = [answer.number as u64, answer.first, answer.second];
     line(out, "answer", numbers)?;
-    if let Err(Refusal::Entries(positions)) = outcome {
-        line(out, "bad", positions)?;
-    }
     let Ok(translation) = outcome else {
         return Ok(());
     };
@@ -333,7 +329,7 @@ fn census(seed: u64, count: u64) -> io::Result<ExitCode> {
     for position in 0..count {
         let case = random_case(&mut random, position);
         let mut meet = |what: String| *met.entry(what).or_default() += 1;
-        meet(format!("answer {}", answers(&case.outcome)[0].number));
+        meet(format!("answer {}", answer_of(&case.outcome).number));
         meet(format!("old trail closed with {}", case.old.close.0));
         if let Some(new) = &case.new {
             meet(format!("new trail closed with {}", new.close.0));

@@ -19,11 +19,12 @@ pub enum Refusal {
     ImageLength(u64),
     /// "base | 2 | base no multiple of 4"
     Base(u32),
-    /// "position of a bad entry, counted from 1; 0 if the count is bad | 3 | 0 or over 64 entries; ..."
+    /// "position of a bad entry, counted from 1; 0 if the count is bad | 3 | 0 or over 64 entries; ..."; 02, N8:
+    /// "a bad count still gives 0"
     EntryCount,
-    /// "... an entry misaligned or outside the image". "the position in refusal 3 may be that of any bad
-    /// entry, and is always that of one": all bad positions, in order.
-    Entries(Vec<u64>),
+    /// "... an entry misaligned or outside the image"; 02, N8: the position is "that of the first entry, in list
+    /// order, that is misaligned or outside the image"
+    Entry(u64),
     /// "its address | 4 | a held place has a forbidden word"
     ForbiddenWord(u32),
     /// "address of the place | 5 | a new place exceeds the table ... or is the 8,193rd"
@@ -41,39 +42,33 @@ pub struct Answer {
 }
 
 impl Refusal {
-    /// All answers that 01 allows: one, except where several entries are bad.
-    pub fn answers(&self) -> Vec<Answer> {
-        let one = |number, first| {
-            vec![Answer {
-                number,
-                first,
-                second: 0,
-            }]
+    fn answer(&self) -> Answer {
+        let (number, first) = match *self {
+            Refusal::ImageLength(length) => (1, length),
+            Refusal::Base(base) => (2, base as u64),
+            Refusal::EntryCount => (3, 0),
+            Refusal::Entry(position) => (3, position),
+            Refusal::ForbiddenWord(address) => (4, address as u64),
+            Refusal::TooManyPlaces(address) => (5, address as u64),
+            Refusal::RecordsNeeded(needed) => (6, needed),
         };
-        match self {
-            Refusal::ImageLength(length) => one(1, *length),
-            Refusal::Base(base) => one(2, *base as u64),
-            Refusal::EntryCount => one(3, 0),
-            Refusal::Entries(positions) => positions
-                .iter()
-                .flat_map(|position| one(3, *position))
-                .collect(),
-            Refusal::ForbiddenWord(address) => one(4, *address as u64),
-            Refusal::TooManyPlaces(address) => one(5, *address as u64),
-            Refusal::RecordsNeeded(needed) => one(6, *needed),
+        Answer {
+            number,
+            first,
+            second: 0,
         }
     }
 }
 
-/// The answers that 01 allows for either outcome.
-pub fn answers(outcome: &Result<Translation, Refusal>) -> Vec<Answer> {
+/// The answer for either outcome.
+pub fn answer_of(outcome: &Result<Translation, Refusal>) -> Answer {
     match outcome {
-        Ok(translation) => vec![Answer {
+        Ok(translation) => Answer {
             number: 0,
             first: translation.rows.len() as u64,
             second: translation.records.len() as u64,
-        }],
-        Err(refusal) => refusal.answers(),
+        },
+        Err(refusal) => refusal.answer(),
     }
 }
 
@@ -104,14 +99,9 @@ pub fn translate(
         return Err(Refusal::EntryCount);
     }
     let entries = entry_numbers(entries);
-    let bad: Vec<u64> = (1..=count as u64)
-        .filter(|position| {
-            let entry = entries[*position as usize - 1];
-            !entry.is_multiple_of(4) || !image.holds(entry)
-        })
-        .collect();
-    if !bad.is_empty() {
-        return Err(Refusal::Entries(bad));
+    let bad = |entry: &u32| !entry.is_multiple_of(4) || !image.holds(*entry);
+    if let Some(before) = entries.iter().position(bad) {
+        return Err(Refusal::Entry(before as u64 + 1));
     }
     // "In the walk, ... the first event of 4 or 5 decides; 6 comes last."
     let (places, numbers) =

@@ -5,7 +5,7 @@ use std::fs;
 use reading::edges::{edges, edges_file, listings, listings_file};
 use reading::listing::listing;
 use reading::old_core::Image;
-use reading::translator::{answers, translate};
+use reading::translator::{answer_of, translate};
 
 #[test]
 fn answers_are_those_by_hand() {
@@ -18,10 +18,9 @@ fn answers_are_those_by_hand() {
             call.places_length,
             call.records_length,
         );
-        let allowed = answers(&outcome);
-        let answer = (allowed[0].number, allowed[0].first, allowed[0].second);
-        assert_eq!(answer, edge.answer, "edge {position}: {call:?}");
-        assert_eq!(allowed.len() > 1, edge.several_bad, "edge {position}");
+        let answer = answer_of(&outcome);
+        let numbers = (answer.number, answer.first, answer.second);
+        assert_eq!(numbers, edge.answer, "edge {position}: {call:?}");
     }
 }
 

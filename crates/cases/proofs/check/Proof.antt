@@ -1,4 +1,4 @@
-use Rattle.cases.specs.Kinds.{Finds}
+use Rattle.cases.specs.Kinds.{found}
 use borrow.Author.Needs.{needs}
 use Rattle.cases.proofs.check.Statement.{statement}
 use Rattle.cases.proofs.check.Tie as tie
@@ -22,15 +22,15 @@ check-requires-2 : tie.Need-check-requires-2
 check-requires-2 c κs = search needs
 
 returns : tie.Need-returns
-unfolding Finds
+unfolding found
 returns c = rw (c .before .before .kind .given .1) (c .check-run .ensures)
 
 returns-2 : tie.Need-returns-2
-unfolding Finds
+unfolding found
 returns-2 c = rw (c .before .enum-told .given .1) (c .check .ensures)
 
 returns-3 : tie.Need-returns-3
-unfolding Finds
+unfolding found
 returns-3 c = rw (c .before .enum-told2 .given .1) (c .check2 .ensures)
 
 pub check-spec : {M : Type 1} → statement M

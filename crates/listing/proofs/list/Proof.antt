@@ -1,4 +1,5 @@
-use Rattle.listing.proofs.Free.{listing-long, listing-short, listed-as}
+use Rattle.listing.proofs.Listing.{listing-long, listing-short, listed-as}
+use Rattle.translator.proofs.Handed.{counted-fits}
 use borrow.Author.Needs.{needs}
 use Rattle.listing.proofs.list.Statement.{statement}
 use Rattle.listing.proofs.list.Tie as tie
@@ -28,7 +29,7 @@ slice-aggregate-put-answer-2 : tie.Need-slice-aggregate-put-answer-2
 slice-aggregate-put-answer-2 c = search needs
 
 put-answer-requires : tie.Need-put-answer-requires
-put-answer-requires c κs = search needs
+put-answer-requires c κs = let f = counted-fits _ _ _ _ _ (c .before .before .before .before .before .translate .ensures) in search (needs, f .0, f .1)
 
 returns-2 : tie.Need-returns-2
 returns-2 c = let b = c .before .before .before .before .before .before in

@@ -17,8 +17,7 @@ same-length-2 : tie.Need-same-length-2
 same-length-2 c = search needs
 
 returns : tie.Need-returns
-returns c = let t = c .before .before .before .before .before .translate .ensures .back in
-    record { position = t .position; bad = t .bad; all = rw (c .numbers-of .ensures) (ap returned (t .all)) }
+returns c = rw (c .numbers-of .ensures) (ap returned (c .before .before .before .before .before .translate .ensures))
 
 pub pijorrel-translate-spec : {M : Type 1} → statement M
 pijorrel-translate-spec =

@@ -1,6 +1,6 @@
 use Rattle.numbers.specs.Number.{numbersOf}
 use Rattle.translator.proofs.Checking.{bad-here, bad-later, bad-nowhere}
-use Rattle.translator.specs.Handing.{badFrom}
+use Rattle.model.specs.Translation.{firstBad}
 use borrow.Author.Needs.{needs}
 use lib.ListN.{drop}
 use native.Mathlib.Numerals.{add-one}
@@ -12,7 +12,7 @@ use Rattle.translator.proofs.bad_position.Tie as tie
 
 abbrev Inv-loop : tie.InvT-loop
 Inv-loop entries k base size j₀ j =
-    (j ≤ k) × (badFrom base size j (drop j (numbersOf entries k)) ≡ badFrom base size 0 (numbersOf entries k))
+    (j ≤ k) × (firstBad base size j (drop j (numbersOf entries k)) ≡ firstBad base size 0 (numbersOf entries k))
 
 abbrev μ-loop : tie.MeasureT-loop
 μ-loop entries k base size j₀ j = k - j

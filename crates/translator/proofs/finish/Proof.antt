@@ -21,7 +21,7 @@ same-length : tie.Need-same-length
 same-length c = search needs
 
 returns : tie.Need-returns
-returns c = λ es position. finish-short _ _ _ _ _ _ _ _ (omega arith) refl _ _ _ (c .before .before .before .lay-out .ensures .0) (c .if1 .taken)
+returns c = finish-short _ _ _ _ (omega arith) refl _ _ _ _ _ (c .before .before .before .lay-out .ensures .0) (c .if1 .taken)
 
 put-groups-requires : tie.Need-put-groups-requires
 put-groups-requires c κs = let b = c .before .before .before .before .before in
@@ -44,7 +44,7 @@ same-length-3 : tie.Need-same-length-3
 same-length-3 c = search needs
 
 returns-2 : tie.Need-returns-2
-returns-2 c = λ es position. finish-whole _ _ _ _ _ _ _ _ (omega arith) (omega arith) _ _ _ (c .before .before .before .before .before .before .before .before .lay-out .ensures .0) (c .before .before .before .before .before .if1 .left) (omega arith) (c .before .before .put-groups .ensures)
+returns-2 c = finish-whole _ _ _ _ (omega arith) (omega arith) _ _ _ _ _ (c .before .before .before .before .before .before .before .before .lay-out .ensures .0) (c .before .before .before .before .before .if1 .left) (c .before .before .put-groups .ensures)
 
 pub finish-spec : {M : Type 1} → statement M
 finish-spec =

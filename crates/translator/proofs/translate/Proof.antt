@@ -1,9 +1,5 @@
 use native.Mathlib.Omega.{arith}
-use Rattle.translator.proofs.Checking.{bad-at}
-use Rattle.model.specs.Records.{numbersIn}
-use Rattle.translator.proofs.Handed.{handed-back}
-use Rattle.translator.specs.Handing.{badFrom}
-use lib.ListN.{length}
+use Rattle.translator.proofs.Handed.{counted-fits, handed-back}
 use borrow.Author.Needs.{needs}
 use Rattle.translator.proofs.translate.Statement.{statement}
 use Rattle.translator.proofs.translate.Tie as tie
@@ -15,19 +11,19 @@ places-counted-requires : tie.Need-places-counted-requires
 places-counted-requires c κs = search needs
 
 mul-clear-from : tie.Need-mul-clear-from
-mul-clear-from c = search needs
+mul-clear-from c = let f = counted-fits _ _ _ _ _ (c .before .before .before .before .before .before .attempt .ensures) in search (needs, f .0)
 
 clear-from-requires : tie.Need-clear-from-requires
-clear-from-requires c κs = search needs
+clear-from-requires c κs = let f = counted-fits _ _ _ _ _ (c .before .before .before .before .before .before .attempt .ensures) in search (needs, f .0)
 
 records-counted-requires : tie.Need-records-counted-requires
 records-counted-requires c κs = search needs
 
 mul-clear-from-2 : tie.Need-mul-clear-from-2
-mul-clear-from-2 c = search needs
+mul-clear-from-2 c = let f = counted-fits _ _ _ _ _ (c .before .before .before .before .before .before .before .before .before .before .before .attempt .ensures) in search (needs, f .1)
 
 clear-from-requires-2 : tie.Need-clear-from-requires-2
-clear-from-requires-2 c κs = search needs
+clear-from-requires-2 c κs = let f = counted-fits _ _ _ _ _ (c .before .before .before .before .before .before .before .before .before .before .before .attempt .ensures) in search (needs, f .1)
 
 same-length : tie.Need-same-length
 same-length c = search needs
@@ -38,19 +34,8 @@ same-length-2 c = search needs
 returns : tie.Need-returns
 returns c = let b = c .before .before .before .before .before .before .before in
     let d = b .before .before .before in
-    let f = d .before .before .before .before in
-    let s = f .before .before .before .before .before .before .before in
     rw (b .clear-from .ensures, c .before .before .clear-from2 .ensures)
-    (record {
-      back =
-          record {
-            position = badFrom (s .args .base) (length (s .args .image .now)) 0 (numbersIn (s .args .entries .now));
-            bad = bad-at _ _ _;
-            all = handed-back _ _ _ _ _ _ (f .attempt .ensures) (b .before .places-counted .ensures) (c .before .before .before .records-counted .ensures) (λ i. (d .before .before .slice-known3 .given i) .fits) (λ i. (d .slice-known4 .given i) .fits);
-          };
-      place-room = omega (arith, f .attempt .ensures .place-room);
-      record-room = omega (arith, f .attempt .ensures .record-room);
-    })
+    (handed-back _ _ _ _ _ _ _ _ _ _ (omega arith) (omega arith) (d .before .before .before .before .attempt .ensures) (b .before .places-counted .ensures) (c .before .before .before .records-counted .ensures) (λ i. (d .before .before .slice-known3 .given i) .fits) (λ i. (d .slice-known4 .given i) .fits))
 
 pub translate-spec : {M : Type 1} → statement M
 translate-spec =

@@ -80,7 +80,7 @@ returns c =
     let d = b .before .before .before .before .before .before in
     let e = d .before .before .before .before .before .before in
     found-back _ _ _ _ _ _ _ (rw (d .before .before .before .before .part3 .ensures, e .locate .ensures)) (e .before .before .before .before .number .ensures) (rw (d .before .before .before .before .before .part2 .ensures, e .locate .ensures)) (b .before .before .before .before .before .pijorrel-translate .ensures)
-    (rw (c .one .ensures, c .before .holds2 .ensures, c .before .before .before .holds .ensures, c .before .before .before .before .before .answers .ensures, b .number4 .ensures, d .before .before .part5 .ensures, d .before .before .before .part4 .ensures, d .before .before .before .before .before .part2 .ensures, e .before .part .ensures, e .locate .ensures, e .before .before .number3 .ensures, e .before .before .before .number2 .ensures, e .before .before .before .before .number .ensures))
+    (rw (c .one .ensures, c .before .holds2 .ensures, c .before .before .before .holds .ensures, c .before .before .before .before .before .answers .ensures, b .number4 .ensures, d .before .before .part5 .ensures, d .before .before .before .part4 .ensures, e .before .part .ensures, e .locate .ensures, e .before .before .number3 .ensures, e .before .before .before .number2 .ensures))
 
 pub check-in-spec : {M : Type 1} → statement M
 check-in-spec =
