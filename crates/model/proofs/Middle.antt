@@ -123,10 +123,10 @@ module _ (image : List ℕ) (base db : ℕ) where
 
     ok-branch : (b annul : Bool) (t : ℕ) → AllIn ps (biccNames depends annul t n) → OutOk ps (branchOut b annul t n h m)
     unfolding biccNames
-    ok-branch true false t i = (i .0, ah)
-    ok-branch true true t i = (i .0, ah)
-    ok-branch false false t i = (i .1 .0, ah)
-    ok-branch false true t i = (i .1 .0, ah)
+    ok-branch true false t i = (i .1 .0, ah)
+    ok-branch true true t i = (i .1 .0, ah)
+    ok-branch false false t i = (i .0, ah)
+    ok-branch false true t i = (i .0, ah)
 
     ok-bicc : (k : Which) (cond : ℕ) (annul : Bool) (t : ℕ) → AllIn ps (biccNames k annul t n) → OutOk ps (biccOut k cond annul t n h m)
     unfolding biccNames

@@ -55,8 +55,8 @@ biccNames never false t n = plain n ∷ []
 biccNames never true t n = plain (plus n 4) ∷ []
 biccNames always false t n = Pair n t ∷ []
 biccNames always true t n = plain t ∷ []
-biccNames depends false t n = Pair n t ∷ plain n ∷ []
-biccNames depends true t n = Pair n t ∷ plain (plus n 4) ∷ []
+biccNames depends false t n = plain n ∷ Pair n t ∷ []
+biccNames depends true t n = plain (plus n 4) ∷ Pair n t ∷ []
 
 -- "Each names its followers, in the order given here", for a plain or slot place (p, n):
 -- "illegal word, Ticc 8: none"; "any other word that is not call, Bicc or jmpl: plain n";

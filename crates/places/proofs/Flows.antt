@@ -90,10 +90,10 @@ module _ (cond : ℕ) (annul : Bool) (t n : ℕ) where
   unfolding biccNames
   always-annuls e a = rw (which-always e, a)
 
-  pub depends-names : (cond ≡ 0 → ⊥) → (cond ≡ 8 → ⊥) → biccNames (whichOf cond) annul t n ≡ Pair n t ∷ plain (pick annul (plus n 4) n) ∷ []
+  pub depends-names : (cond ≡ 0 → ⊥) → (cond ≡ 8 → ⊥) → biccNames (whichOf cond) annul t n ≡ plain (pick annul (plus n 4) n) ∷ Pair n t ∷ []
   unfolding biccNames
   depends-names h k =
-      rw (which-depends h k) (by-annul (λ b. biccNames depends b t n) (λ m. Pair n t ∷ plain m ∷ []) n refl refl annul)
+      rw (which-depends h k) (by-annul (λ b. biccNames depends b t n) (λ m. plain m ∷ Pair n t ∷ []) n refl refl annul)
 
 -- the word of an address, as it was fetched
 module _ (image : List ℕ) (base p : ℕ) {f : Fetched} (e : wordOf f ≡ wordIn image base p) where
