@@ -140,7 +140,7 @@ fn then_plain(
     then_pair(places, heads, links, w, room, p, further(p, 4))
 }
 
-// Adds what a Bicc names.
+// Adds what a Bicc names, where it is not taken before where it is.
 fn add_branch(
     places: &mut [u8],
     heads: &mut [u16; 8192],
