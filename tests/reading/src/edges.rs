@@ -6,6 +6,7 @@ use crate::random::TranslateCall;
 use crate::translator::bytes;
 
 const ADD: u32 = 0x8200_6001; // add 1 to register 1
+const NOP: u32 = 0x0100_0000;
 const TA: u32 = 0x91D0_2000; // ta 0
 const TN: u32 = 0x81D0_2000; // tn 0: a Ticc that is never taken
 const BA: u32 = 0x1080_0000;
@@ -366,7 +367,7 @@ fn first_events_of_branches() -> Vec<Edge> {
         edge(words, 0, &[0], answer).lent(places * PLACE, 160 * RECORD)
     };
     // a forbidden word on both sides
-    let both = |branch| [over(branch, 4), ADD, RETURN, BA, RETURN, BA];
+    let both = |branch| [over(branch, 4), NOP, RETURN, BA, RETURN, BA];
     let in_slots = |branch| [over(branch, 4), RETURN, RETURN, BA, BA];
     // on the side not taken: held 12, and words up to 24 on the other
     let left = |branch| [over(branch, 4), ADD, RETURN, BA, ADD, ADD, TA];
