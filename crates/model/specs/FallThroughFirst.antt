@@ -1,5 +1,5 @@
 -- 02, N6, The fall-through first: the numbers that a conditional branch's followers take, held to its words.
-use Prim.Native.Nat.{ℕ, _+_, _≤_}
+use Prim.Native.Nat.{ℕ, suc, _<_}
 use mathlib.Core.Path.{_≡_}
 use mathlib.Core.Bool.{Bool, false}
 use mathlib.Core.List.{List, [], _∷_, _++_}
@@ -15,12 +15,12 @@ use Rattle.model.specs.OldCore.{wordIn, target}
 use Rattle.model.specs.Places.{plain, samePlace, member, followers}
 use Rattle.model.specs.Walk.{table, grow}
 
--- two places that a table of room cap takes
+-- two places, neither in a table yet, and room for both
 pub record TwoNew (cap : ℕ) (ps : List Place) (x y : Place) : Type 0 where
   pub first-new : member ps x ≡ false
   pub second-new : member ps y ≡ false
   pub apart : samePlace x y ≡ false
-  pub room : length ps + 2 ≤ cap
+  pub room : suc (length ps) < cap
 
 -- "Where a conditional branch finds two new followers together, .. the fall-through shall have" the smaller number: it takes the next one, and
 -- the place taken, (n, t), the one after that
