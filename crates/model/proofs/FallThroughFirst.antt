@@ -2,19 +2,17 @@
 use Prim.Native.Nat.{ℕ, _+_}
 use native.Mathlib.Omega.{arith}
 use mathlib.Core.Path.{_≡_, ap}
-use mathlib.Core.Bool.{Bool, true, false}
+use mathlib.Core.Bool.{false}
 use mathlib.Core.List.{List, [], _∷_, _++_, append-assoc}
 use lib.ListN.{length, length-append}
-use borrow.Author.Tests.{ne-eqb, lt-ltb}
-use Rattle.numbers.specs.Choice.{pick}
-use Rattle.numbers.specs.Number.{plus}
+use borrow.Author.Tests.{lt-ltb}
 use Rattle.model.specs.declared.Place.{Place}
-use Rattle.model.specs.declared.Place.the-variants.{Pair}
 use Rattle.model.specs.OldCore.{transferOf, target}
-use Rattle.model.specs.Places.{plain, samePlace, member, depends, whichOf, biccNames, names, namesAt, followers}
+use Rattle.model.specs.Places.{samePlace, member, names, namesAt, followers}
 use Rattle.model.specs.Walk.{table, grow}
 use Rattle.model.specs.FallThroughFirst.{TwoNew, FallThroughFirst}
 use Rattle.model.proofs.Members.{not-mem}
+use Rattle.model.proofs.Branches.{depends-names}
 
 -- a place that is new stays so where another one is added
 still-new : (ps : List Place) (x y : Place) → member ps y ≡ false → samePlace x y ≡ false → member (ps ++ (x ∷ [])) y ≡ false
@@ -35,11 +33,6 @@ grow-two cap ps x y t =
     ) (ap table (append-assoc ps (x ∷ []) (y ∷ [])))
 
 pub fall-through-first : FallThroughFirst
-unfolding FallThroughFirst followers namesAt names transferOf whichOf biccNames
-fall-through-first image base p n word cond annul disp w i h k cap ps =
-    rw (w, i, ne-eqb cond 0 h, ne-eqb cond 8 k) (go annul)
-  where
-    go : (b : Bool) → TwoNew cap ps (plain (pick b (plus n 4) n)) (Pair n (target p disp))
-        → grow cap ps (biccNames depends b (target p disp) n) ≡ table (ps ++ (plain (pick b (plus n 4) n) ∷ Pair n (target p disp) ∷ []))
-    go true t = grow-two cap ps _ _ t
-    go false t = grow-two cap ps _ _ t
+unfolding FallThroughFirst followers namesAt names transferOf
+fall-through-first image base p n word cond annul disp w i h k cap ps t =
+    rw (w, i, depends-names cond annul (target p disp) n h k) (grow-two cap ps _ _ t)

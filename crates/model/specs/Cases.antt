@@ -139,6 +139,10 @@ loads = 0xC4006000 ∷ []
 abbrev pub returns : List ℕ
 returns = 0x40000003 ∷ nop ∷ 0x91D02000 ∷ 0x81C3E008 ∷ nop ∷ []
 
+-- ba 16; a word in its delay slot; ta 1 at 12; nop; ta 0 at 24, else 0
+abbrev pub slotted : ℕ → List ℕ
+slotted word = 0x10800004 ∷ word ∷ 0 ∷ 0x91D02001 ∷ nop ∷ 0 ∷ 0x91D02000 ∷ []
+
 -- jmpl %g1 + 0 without link; add 1 to register 1; two words that nothing names
 abbrev pub strays : List ℕ
 strays = 0x81C06000 ∷ 0x82006001 ∷ nop ∷ nop ∷ []
@@ -204,6 +208,17 @@ cases =
     (0 ∷ 3 ∷ 5
     ∷ 0 ∷ 4 ∷ 0 ∷ 0 ∷ 4 ∷ 0 ∷ 2 ∷ 2 ∷ 8 ∷ 12 ∷ 0 ∷ 4
     ∷ 3 ∷ 0x83C06000 ∷ 0 ∷ 5 ∷ 2 ∷ 0 ∷ 1 ∷ 0x01000000 ∷ 0 ∷ 6 ∷ 0 ∷ 0 ∷ 7 ∷ 2 ∷ 8
+    ∷ [])
+    -- both in a delay slot, from (4, 16): plain p + 8 is 12, and not n + 4
+    ∷ row 0 (listed 5 7 (slotted 0x40000005))
+    (0 ∷ 5 ∷ 7
+    ∷ 0 ∷ 4 ∷ 0 ∷ 0 ∷ 4 ∷ 16 ∷ 1 ∷ 1 ∷ 16 ∷ 24 ∷ 1 ∷ 3 ∷ 12 ∷ 16 ∷ 0 ∷ 5 ∷ 24 ∷ 28 ∷ 0 ∷ 6
+    ∷ 5 ∷ 1 ∷ 0 ∷ 2 ∷ 4 ∷ 0 ∷ 5 ∷ 3 ∷ 0 ∷ 1 ∷ 0x01000000 ∷ 0 ∷ 5 ∷ 6 ∷ 0 ∷ 1 ∷ 0x91D02001 ∷ 0 ∷ 1 ∷ 0x91D02000 ∷ 0
+    ∷ [])
+    ∷ row 0 (listed 4 6 (slotted 0x83C06000))
+    (0 ∷ 4 ∷ 6
+    ∷ 0 ∷ 4 ∷ 0 ∷ 0 ∷ 4 ∷ 16 ∷ 1 ∷ 1 ∷ 16 ∷ 0 ∷ 2 ∷ 3 ∷ 12 ∷ 16 ∷ 0 ∷ 5
+    ∷ 5 ∷ 1 ∷ 0 ∷ 3 ∷ 0x83C06000 ∷ 4 ∷ 5 ∷ 3 ∷ 0 ∷ 1 ∷ 0x01000000 ∷ 0 ∷ 6 ∷ 0 ∷ 0 ∷ 1 ∷ 0x91D02001 ∷ 0
     ∷ [])
     -- "Bicc 0 with annul: plain n + 4."; an illegal word: "one 7 (.. 3, address p)"
     ∷ row 0 (listed 2 2 (0x20800004 ∷ nop ∷ 0 ∷ [])) (0 ∷ 2 ∷ 2 ∷ 0 ∷ 4 ∷ 0 ∷ 0 ∷ 8 ∷ 12 ∷ 0 ∷ 1 ∷ 5 ∷ 1 ∷ 0 ∷ 7 ∷ 3 ∷ 8 ∷ [])

@@ -1,4 +1,4 @@
-use Rattle.places.proofs.Flows.{never-names, always-names, always-annuls, depends-names}
+use Rattle.model.proofs.Branches.{never-names, always-names, always-annuls, depends-names}
 use Rattle.places.proofs.Walking.{known-two}
 use borrow.Author.Needs.{needs}
 use Rattle.places.proofs.worklist.add_branch.Statement.{statement}
