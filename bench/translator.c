@@ -161,7 +161,7 @@ static inline bool add_branch(struct table *table, uint32_t word, uint32_t targe
         return add_plain(table, past);
     if (cond(word) == COND_ALWAYS)
         return annul_bit(word) ? add_plain(table, target) : add_pair(table, next, target);
-    return add_pair(table, next, target) && add_plain(table, past);
+    return add_plain(table, past) && add_pair(table, next, target);
 }
 
 /* Adds what follows the word of a plain or slot place; false where there is no room. */

@@ -71,7 +71,9 @@ struct pijorrel_end pijorrel_old_run(const uint8_t *image, size_t image_length, 
 
 /* ---- places and records ----
  *
- * A place table has four numbers for each place, 16 bytes. A place's number is its position, counted from 0.
+ * A place table has four numbers for each place, 16 bytes. A place's number is its position, counted from 0; in a
+ * translation the entries come first, then what follows each place, place by place, and of what follows a conditional
+ * branch the fall-through comes before the delay slot of the branch taken.
  *   0  address
  *   1  next: the address after it; 0 for a held place, where it is known only when run
  *   2  kind: 0 plain (next is address + 4), 1 slot (any other next), 2 held

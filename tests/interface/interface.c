@@ -193,6 +193,28 @@ static void translation_edges(void)
     CHECK(a.number == 5 && a.first == 0);
 }
 
+/* The README's image: of the two places that follow its be, the fall-through has the smaller number. */
+static void fall_through_first(void)
+{
+    static const uint32_t image[] = { 0x02800003, 0x82006001, 0x91D02001, 0x91D02000 };
+    static const uint32_t places[] = { 0, 4, 0, 0, 4, 8, 0, 2, 4, 12, 1, 4, 8, 12, 0, 6, 12, 16, 0, 7 };
+    static const uint32_t records[] = { 4, 1, 4, 5, 2, 0, 1, 0x82006001, 0, 5, 6, 0,
+                                        1, 0x82006001, 0, 5, 7, 0, 1, 0x91D02001, 0, 1, 0x91D02000, 0 };
+    uint8_t bytes[16], entry[4] = { 0 }, table[80], list[96], table_by_hand[80], list_by_hand[96];
+    for (int i = 0; i < 4; i++)
+        put_number(bytes, i, image[i]);
+    for (int i = 0; i < 20; i++)
+        put_number(table_by_hand, i, places[i]);
+    for (int i = 0; i < 24; i++)
+        put_number(list_by_hand, i, records[i]);
+    struct pijorrel_answer a = pijorrel_translate(bytes, 16, 0, entry, 4, table, 80, list, 96);
+    CHECK(a.number == 0 && a.first == 5 && a.second == 8);
+    CHECK(memcmp(table, table_by_hand, 80) == 0 && memcmp(list, list_by_hand, 96) == 0);
+    put_number(bytes, 0, 0x22800003); /* be,a: the word past the delay slot comes first, and there is no room for it */
+    a = pijorrel_translate(bytes, 16, 0, entry, 4, table, 16, list, 96);
+    CHECK(a.number == 5 && a.first == 8);
+}
+
 /* Refusal 3 names the first bad entry of a list, and a bad count is 0 whatever the entries are. */
 static void first_bad_entry(void)
 {
@@ -218,6 +240,7 @@ int main(void)
     data_edges();
     listing_runs();
     translation_edges();
+    fall_through_first();
     first_bad_entry();
     printf("%d of %d checks of the C interface hold\n", checks - failures, checks);
     return failures != 0;

@@ -121,12 +121,13 @@ module _ (image : List ℕ) (base db : ℕ) where
     ok-jump true t m′ rest e i = (i .0, eqb-true (t % 4) 0 e)
     ok-jump false t m′ rest e i = omega arith
 
+    -- wherever among the names the place stands
     ok-branch : (b annul : Bool) (t : ℕ) → AllIn ps (biccNames depends annul t n) → OutOk ps (branchOut b annul t n h m)
     unfolding biccNames
-    ok-branch true false t i = (i .0, ah)
-    ok-branch true true t i = (i .0, ah)
-    ok-branch false false t i = (i .1 .0, ah)
-    ok-branch false true t i = (i .1 .0, ah)
+    ok-branch true false t i = search i
+    ok-branch true true t i = search i
+    ok-branch false false t i = search i
+    ok-branch false true t i = search i
 
     ok-bicc : (k : Which) (cond : ℕ) (annul : Bool) (t : ℕ) → AllIn ps (biccNames k annul t n) → OutOk ps (biccOut k cond annul t n h m)
     unfolding biccNames
@@ -145,7 +146,7 @@ module _ (image : List ℕ) (base db : ℕ) where
     ok-do illegal i q a = omega arith
     ok-do straight i q a = ok-effect (effectOf db i m) (effects-end db i m) a
     ok-do trap i q a = ok-trap i q
-    ok-do (call disp) i q a = (a .0, ah)
+    ok-do (call disp) i q a = search a
     ok-do (bicc cond annul disp) i q a = ok-bicc (whichOf cond) cond annul (target p disp) a
     ok-do (jmpl rd rs1 x) i q a =
         ok-jump (eqb (addressOf (m .registers) rs1 x % 4) 0) (addressOf (m .registers) rs1 x) (linked m rd p)

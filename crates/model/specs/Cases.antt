@@ -139,9 +139,21 @@ loads = 0xC4006000 ∷ []
 abbrev pub returns : List ℕ
 returns = 0x40000003 ∷ nop ∷ 0x91D02000 ∷ 0x81C3E008 ∷ nop ∷ []
 
+-- ba 16; a word in its delay slot; ta 1 at 12; nop; ta 0 at 24, else 0
+abbrev pub slotted : ℕ → List ℕ
+slotted word = 0x10800004 ∷ word ∷ 0 ∷ 0x91D02001 ∷ nop ∷ 0 ∷ 0x91D02000 ∷ []
+
 -- jmpl %g1 + 0 without link; add 1 to register 1; two words that nothing names
 abbrev pub strays : List ℕ
 strays = 0x81C06000 ∷ 0x82006001 ∷ nop ∷ nop ∷ []
+
+-- a branch to 12 or elsewhere; add 1 to register 1; ta 1; ta 0
+abbrev pub forks : ℕ → List ℕ
+forks branch = branch ∷ 0x82006001 ∷ 0x91D02001 ∷ 0x91D02000 ∷ []
+
+-- be 16; nop; a jmpl that holds ba; another one
+abbrev pub twoForbidden : List ℕ
+twoForbidden = 0x02800004 ∷ nop ∷ 0x81C3E008 ∷ 0x10800003 ∷ 0x81C3E008 ∷ 0x10800003 ∷ []
 
 abbrev row : ℕ → List ℕ → List ℕ → Row
 row p got want = record { case = p; got = got; want = want }
@@ -197,6 +209,17 @@ cases =
     ∷ 0 ∷ 4 ∷ 0 ∷ 0 ∷ 4 ∷ 0 ∷ 2 ∷ 2 ∷ 8 ∷ 12 ∷ 0 ∷ 4
     ∷ 3 ∷ 0x83C06000 ∷ 0 ∷ 5 ∷ 2 ∷ 0 ∷ 1 ∷ 0x01000000 ∷ 0 ∷ 6 ∷ 0 ∷ 0 ∷ 7 ∷ 2 ∷ 8
     ∷ [])
+    -- both in a delay slot, from (4, 16): plain p + 8 is 12, and not n + 4
+    ∷ row 0 (listed 5 7 (slotted 0x40000005))
+    (0 ∷ 5 ∷ 7
+    ∷ 0 ∷ 4 ∷ 0 ∷ 0 ∷ 4 ∷ 16 ∷ 1 ∷ 1 ∷ 16 ∷ 24 ∷ 1 ∷ 3 ∷ 12 ∷ 16 ∷ 0 ∷ 5 ∷ 24 ∷ 28 ∷ 0 ∷ 6
+    ∷ 5 ∷ 1 ∷ 0 ∷ 2 ∷ 4 ∷ 0 ∷ 5 ∷ 3 ∷ 0 ∷ 1 ∷ 0x01000000 ∷ 0 ∷ 5 ∷ 6 ∷ 0 ∷ 1 ∷ 0x91D02001 ∷ 0 ∷ 1 ∷ 0x91D02000 ∷ 0
+    ∷ [])
+    ∷ row 0 (listed 4 6 (slotted 0x83C06000))
+    (0 ∷ 4 ∷ 6
+    ∷ 0 ∷ 4 ∷ 0 ∷ 0 ∷ 4 ∷ 16 ∷ 1 ∷ 1 ∷ 16 ∷ 0 ∷ 2 ∷ 3 ∷ 12 ∷ 16 ∷ 0 ∷ 5
+    ∷ 5 ∷ 1 ∷ 0 ∷ 3 ∷ 0x83C06000 ∷ 4 ∷ 5 ∷ 3 ∷ 0 ∷ 1 ∷ 0x01000000 ∷ 0 ∷ 6 ∷ 0 ∷ 0 ∷ 1 ∷ 0x91D02001 ∷ 0
+    ∷ [])
     -- "Bicc 0 with annul: plain n + 4."; an illegal word: "one 7 (.. 3, address p)"
     ∷ row 0 (listed 2 2 (0x20800004 ∷ nop ∷ 0 ∷ [])) (0 ∷ 2 ∷ 2 ∷ 0 ∷ 4 ∷ 0 ∷ 0 ∷ 8 ∷ 12 ∷ 0 ∷ 1 ∷ 5 ∷ 1 ∷ 0 ∷ 7 ∷ 3 ∷ 8 ∷ [])
     -- a held place: "Outside or illegal: one 7 .. Ticc 8: one 1. Held: 1, 6. .. The first that fits applies."
@@ -244,6 +267,31 @@ cases =
     ∷ row 0 (answerNumbers (given p1 (0 ∷ 16 ∷ 2 ∷ []) 48 48 .answer)) (3 ∷ 2 ∷ 0 ∷ [])
     ∷ row 0 (answerNumbers (given p1 (replicate 63 0 ++ (6 ∷ [])) 48 48 .answer)) (3 ∷ 64 ∷ 0 ∷ [])
     ∷ row 0 (answerNumbers (given p1 (replicate 65 2) 48 48 .answer)) (3 ∷ 0 ∷ 0 ∷ [])
+    -- 02, N6: "for every Bicc but 0 and 8 the plain place is named before (n, t)": be 12, be,a 12, and to n + 4
+    ∷ row 0 (listed 5 8 (forks 0x02800003))
+    (0 ∷ 5 ∷ 8
+    ∷ 0 ∷ 4 ∷ 0 ∷ 0 ∷ 4 ∷ 8 ∷ 0 ∷ 2 ∷ 4 ∷ 12 ∷ 1 ∷ 4 ∷ 8 ∷ 12 ∷ 0 ∷ 6 ∷ 12 ∷ 16 ∷ 0 ∷ 7
+    ∷ 4 ∷ 1 ∷ 4 ∷ 5 ∷ 2 ∷ 0 ∷ 1 ∷ 0x82006001 ∷ 0 ∷ 5 ∷ 6 ∷ 0 ∷ 1 ∷ 0x82006001 ∷ 0 ∷ 5 ∷ 7 ∷ 0 ∷ 1 ∷ 0x91D02001 ∷ 0 ∷ 1 ∷ 0x91D02000 ∷ 0
+    ∷ [])
+    ∷ row 0 (listed 4 6 (forks 0x22800003))
+    (0 ∷ 4 ∷ 6
+    ∷ 0 ∷ 4 ∷ 0 ∷ 0 ∷ 8 ∷ 12 ∷ 0 ∷ 2 ∷ 4 ∷ 12 ∷ 1 ∷ 3 ∷ 12 ∷ 16 ∷ 0 ∷ 5
+    ∷ 4 ∷ 1 ∷ 3 ∷ 5 ∷ 2 ∷ 0 ∷ 1 ∷ 0x91D02001 ∷ 0 ∷ 1 ∷ 0x82006001 ∷ 0 ∷ 5 ∷ 5 ∷ 0 ∷ 1 ∷ 0x91D02000 ∷ 0
+    ∷ [])
+    ∷ row 0 (listed 3 5 (forks 0x02800002))
+    (0 ∷ 3 ∷ 5
+    ∷ 0 ∷ 4 ∷ 0 ∷ 0 ∷ 4 ∷ 8 ∷ 0 ∷ 2 ∷ 8 ∷ 12 ∷ 0 ∷ 4
+    ∷ 4 ∷ 1 ∷ 2 ∷ 5 ∷ 2 ∷ 0 ∷ 1 ∷ 0x82006001 ∷ 0 ∷ 5 ∷ 4 ∷ 0 ∷ 1 ∷ 0x91D02001 ∷ 0
+    ∷ [])
+    ∷ row 0 (listed 3 5 (forks 0x22800002))
+    (0 ∷ 3 ∷ 5
+    ∷ 0 ∷ 4 ∷ 0 ∷ 0 ∷ 8 ∷ 12 ∷ 0 ∷ 2 ∷ 4 ∷ 8 ∷ 0 ∷ 3
+    ∷ 4 ∷ 1 ∷ 3 ∷ 5 ∷ 2 ∷ 0 ∷ 1 ∷ 0x91D02001 ∷ 0 ∷ 1 ∷ 0x82006001 ∷ 0 ∷ 5 ∷ 2 ∷ 0
+    ∷ [])
+    -- and so of refusals 4 and 5 which comes first, and where
+    ∷ row 0 (answered twoForbidden 8192 12288) (4 ∷ 12 ∷ 0 ∷ [])
+    ∷ row 0 (answered (forks 0x02800003) 48 12288) (5 ∷ 8 ∷ 0 ∷ [])
+    ∷ row 0 (answered (forks 0x22800003) 16 12288) (5 ∷ 8 ∷ 0 ∷ [])
     ∷ []
 
 pub noCase : Row

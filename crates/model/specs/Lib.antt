@@ -2,6 +2,7 @@ pub mod Run
 pub mod OldCore
 pub mod Places
 pub mod Walk
+pub mod FallThroughFirst
 pub mod Records
 pub mod NewCore
 pub mod Translation

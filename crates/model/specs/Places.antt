@@ -49,14 +49,14 @@ whichOf cond = pick (eqb cond 0) never (pick (eqb cond 8) always depends)
 
 -- "Bicc 0 without annul, ..: plain n. Bicc 0 with annul: plain n + 4."
 -- "Bicc 8 to t: (n, t); with annul, plain t."
--- "other Bicc to t: (n, t), then plain n; with annul, (n, t), then plain n + 4."
+-- "other Bicc to t": "plain n; with annul, .. plain n + 4", and (n, t); 02, N6: "for every Bicc but 0 and 8 the plain place is named before (n, t)"
 unfoldable pub biccNames : Which → Bool → ℕ → ℕ → List Place
 biccNames never false t n = plain n ∷ []
 biccNames never true t n = plain (plus n 4) ∷ []
 biccNames always false t n = Pair n t ∷ []
 biccNames always true t n = plain t ∷ []
-biccNames depends false t n = Pair n t ∷ plain n ∷ []
-biccNames depends true t n = Pair n t ∷ plain (plus n 4) ∷ []
+biccNames depends false t n = plain n ∷ Pair n t ∷ []
+biccNames depends true t n = plain (plus n 4) ∷ Pair n t ∷ []
 
 -- "Each names its followers, in the order given here", for a plain or slot place (p, n):
 -- "illegal word, Ticc 8: none"; "any other word that is not call, Bicc or jmpl: plain n";

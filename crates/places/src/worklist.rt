@@ -106,7 +106,26 @@ fn add_held(
     counted(room, p.0, m)
 }
 
-// Adds a plain place after another, if there was room for that.
+// Adds a pair after another place, if there was room for that.
+fn then_pair(
+    places: &mut [u8],
+    heads: &mut [u16; 8192],
+    links: &mut [u16; 8192],
+    w: Found,
+    room: usize,
+    p: SourcePc,
+    n: SourcePc,
+) -> Found
+    requires { ⌜ ReadyBy room w (now places) (now heads) (now links) ⌝ }
+    ensures { λ r. ⌜ Known room (grown (λ ps. grow room ps (Pair (p .0) (n .0) ∷ [])) (seen w (now (places .entry)))) r (now (places .exit)) (now (heads .exit)) (now (links .exit)) ⌝ }
+{
+    match w {
+        Found::Places(count) => add_pair(places, heads, links, count, room, p, n),
+        Found::Forbidden(a) => Found::Forbidden(a),
+        Found::NoRoom(a) => Found::NoRoom(a),
+    }
+}
+
 fn then_plain(
     places: &mut [u8],
     heads: &mut [u16; 8192],
@@ -118,14 +137,10 @@ fn then_plain(
     requires { ⌜ ReadyBy room w (now places) (now heads) (now links) ⌝ }
     ensures { λ r. ⌜ Known room (grown (λ ps. grow room ps (plain (p .0) ∷ [])) (seen w (now (places .entry)))) r (now (places .exit)) (now (heads .exit)) (now (links .exit)) ⌝ }
 {
-    match w {
-        Found::Places(n) => add_plain(places, heads, links, n, room, p),
-        Found::Forbidden(a) => Found::Forbidden(a),
-        Found::NoRoom(a) => Found::NoRoom(a),
-    }
+    then_pair(places, heads, links, w, room, p, further(p, 4))
 }
 
-// Adds what a Bicc names.
+// Adds what a Bicc names, where it is not taken before where it is.
 fn add_branch(
     places: &mut [u8],
     heads: &mut [u16; 8192],
@@ -149,8 +164,8 @@ fn add_branch(
         }
         return add_pair(places, heads, links, count, room, n, t);
     }
-    let w = add_pair(places, heads, links, count, room, n, t);
-    then_plain(places, heads, links, w, room, untaken(annul, n))
+    let w = add_plain(places, heads, links, count, room, untaken(annul, n));
+    then_pair(places, heads, links, w, room, n, t)
 }
 
 // Adds what a jmpl names: what follows the delay slot is known only when run, and comes back only to a link.

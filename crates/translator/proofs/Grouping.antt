@@ -13,7 +13,8 @@ use Rattle.places.specs.declared.control.Fetched.{Fetched}
 use Rattle.places.specs.declared.control.Fetched.the-variants.{Word, Outside}
 use Rattle.places.specs.Control.{wordOf, transferred}
 use Rattle.places.specs.Table.{placeOf, placeIn}
-use Rattle.places.proofs.Flows.{by-flow, which-never, which-always, which-depends, by-annul, fetched-none, fetched-some}
+use Rattle.model.proofs.Branches.{which-never, which-always, which-depends, by-annul}
+use Rattle.places.proofs.Flows.{by-flow, fetched-none, fetched-some}
 use Rattle.translator.specs.Layout.{size}
 use lib.Dec.{eqb}
 use mathlib.Core.List.{List}

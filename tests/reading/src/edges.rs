@@ -6,6 +6,7 @@ use crate::random::TranslateCall;
 use crate::translator::bytes;
 
 const ADD: u32 = 0x8200_6001; // add 1 to register 1
+const NOP: u32 = 0x0100_0000;
 const TA: u32 = 0x91D0_2000; // ta 0
 const TN: u32 = 0x81D0_2000; // tn 0: a Ticc that is never taken
 const BA: u32 = 0x1080_0000;
@@ -301,6 +302,101 @@ fn first_events() -> Vec<Edge> {
     ]
 }
 
+/// 02, N6: "for every Bicc but 0 and 8 the plain place is named before (n, t)". Each of the 32 branches at 0 to 12,
+/// with adds up to a ta and a table that is too short just where the order tells: with annul for the first or second of
+/// the two followers, without it, where both have one address, for the first's or second's own follower.
+fn first_named() -> Vec<Edge> {
+    let of = |branch: u32, room: usize, address: u64| {
+        let words = [over(branch, 3), ADD, ADD, ADD, TA];
+        edge(&words, 0, &[0], (5, address, 0)).lent(room * PLACE, 160 * RECORD)
+    };
+    let mut edges = vec![
+        of(BN, 1, 4),
+        of(BN | ANNUL, 1, 8),
+        of(BA, 1, 4),
+        of(BA | ANNUL, 1, 12),
+    ];
+    for branch in (0..16).filter(|k| k % 8 != 0).map(|k| BN | k << 25) {
+        // plain 0, plain 4, (4, 12), plain 8, plain 12; with annul plain 0, plain 8, (4, 12)
+        edges.extend([of(branch, 3, 8), of(branch, 4, 12)]);
+        edges.extend([of(branch | ANNUL, 1, 8), of(branch | ANNUL, 2, 4)]);
+    }
+    edges
+}
+
+/// The same from a slot place (4, 16), at the top of the address space, and where a follower is no new place.
+fn first_named_elsewhere() -> Vec<Edge> {
+    let room = |words: &[u32], base, places, answer| {
+        edge(words, base, &[base], answer).lent(places * PLACE, 160 * RECORD)
+    };
+    // plain 0, (4, 16), plain 16, (16, 24), plain 20; with annul plain 20 before (16, 24), and plain 24
+    let slot = |branch| [over(BA, 4), over(branch, 5), ILLEGAL, ILLEGAL, ADD, ADD, TA];
+    // the top word, plain 0 or, with annul, plain 4, and (0, 8)
+    let top = 0xFFFF_FFFC;
+    let across = |branch| [over(branch, 3), ADD, ADD, ADD, TA];
+    // to n + 4: plain 4 alone; with annul plain 8 and plain 4
+    let near = |branch| [over(branch, 2), ADD, TA];
+    // to itself: plain 0, plain 4, (4, 0), plain 8; with annul plain 0, plain 8, (4, 0)
+    let itself = |branch| [branch, ADD, TA];
+    vec![
+        room(&slot(BE), 0, 3, (5, 16, 0)),
+        room(&slot(BE), 0, 4, (5, 20, 0)),
+        room(&slot(BE | ANNUL), 0, 2, (5, 20, 0)),
+        room(&slot(BE | ANNUL), 0, 3, (5, 16, 0)),
+        room(&across(BE), top, 3, (5, 4, 0)),
+        room(&across(BE | ANNUL), top, 1, (5, 4, 0)),
+        room(&across(BE | ANNUL), top, 2, (5, 0, 0)),
+        room(&near(BE), 0, 2, (5, 8, 0)),
+        room(&near(BE), 0, 3, (0, 3, 5)),
+        room(&near(BE | ANNUL), 0, 1, (5, 8, 0)),
+        room(&near(BE | ANNUL), 0, 2, (5, 4, 0)),
+        room(&near(BE | ANNUL), 0, 3, (0, 3, 5)),
+        room(&itself(BE), 0, 3, (5, 8, 0)),
+        room(&itself(BE), 0, 4, (0, 4, 7)),
+        room(&itself(BE | ANNUL), 0, 2, (5, 4, 0)),
+        room(&itself(BE | ANNUL), 0, 3, (0, 3, 5)),
+        // the other one is an entry: only plain 8 is new, or only (4, 12)
+        edge(&near(BE | ANNUL), 0, &[0, 4], (5, 8, 0)).lent(2 * PLACE, 0),
+        edge(&[over(BE | ANNUL, 3), ADD, TA, TA], 0, &[0, 8], (5, 4, 0)).lent(2 * PLACE, 0),
+    ]
+}
+
+/// Refusals 4 and 5 by 02's order: the side that is not taken is handled first, of places that are equally far.
+fn first_events_of_branches() -> Vec<Edge> {
+    let room = |words: &[u32], places: usize, answer| {
+        edge(words, 0, &[0], answer).lent(places * PLACE, 160 * RECORD)
+    };
+    // a forbidden word on both sides
+    let both = |branch| [over(branch, 4), NOP, RETURN, BA, RETURN, BA];
+    let in_slots = |branch| [over(branch, 4), RETURN, RETURN, BA, BA];
+    // on the side not taken: held 12, and words up to 24 on the other
+    let left = |branch| [over(branch, 4), ADD, RETURN, BA, ADD, ADD, TA];
+    // on the side taken: held 28, and words up to 20 on the other
+    let taken = |branch| [over(branch, 6), ADD, ADD, ADD, ADD, TA, RETURN, BA];
+    vec![
+        room(&both(BE), 80, (4, 12, 0)),
+        room(&both(BE | ANNUL), 80, (4, 12, 0)),
+        room(&in_slots(BE), 80, (4, 8, 0)),
+        room(&in_slots(BE | ANNUL), 80, (4, 12, 0)),
+        // plain 0, plain 4, (4, 16), plain 8, plain 16, held 12, plain 20; then held 12 is handled
+        room(&left(BE), 5, (5, 12, 0)),
+        room(&left(BE), 6, (5, 20, 0)),
+        room(&left(BE), 7, (4, 12, 0)),
+        // plain 0, plain 8, (4, 16), held 12, plain 16; then held 12 is handled
+        room(&left(BE | ANNUL), 3, (5, 12, 0)),
+        room(&left(BE | ANNUL), 4, (5, 16, 0)),
+        room(&left(BE | ANNUL), 5, (4, 12, 0)),
+        // plain 0, plain 4, (4, 24), plain 8, plain 24, plain 12, held 28, plain 16; then held 28 is handled
+        room(&taken(BE), 6, (5, 28, 0)),
+        room(&taken(BE), 7, (5, 16, 0)),
+        room(&taken(BE), 8, (4, 28, 0)),
+        // plain 0, plain 8, (4, 24), plain 12, plain 24, plain 16, held 28, plain 20; then held 28 is handled
+        room(&taken(BE | ANNUL), 6, (5, 28, 0)),
+        room(&taken(BE | ANNUL), 7, (5, 20, 0)),
+        room(&taken(BE | ANNUL), 8, (4, 28, 0)),
+    ]
+}
+
 /// Refusals 5 and 6 on 01's listing, which has three places and four records.
 fn short_buffers() -> Vec<Edge> {
     let lend = |places, records, answer| edge(&LISTED, 0, &[0], answer).lent(places, records);
@@ -375,7 +471,7 @@ fn across_the_top() -> Vec<Edge> {
         edge(&[over(BA, 2), ADD, TA], base, &[base], (0, 3, 4)),
         // plain, slot to 4, plain 0, plain 4
         edge(&[CALL | 3, ADD, TA, TA], base, &[base], (0, 4, 6)),
-        // plain 0, slot 4 to the top word, plain 4, the top word, plain 8
+        // plain 0, plain 4, slot 4 to the top word, plain 8, the top word
         edge(&[TA, over(BE, -1), ADD, TA], base + 4, &[0], (0, 5, 8)),
         // plain 0, slot 4, and far outside
         edge(&[over(BA, -0x20_0000), ADD], 0, &[0], (0, 3, 4)),
@@ -430,6 +526,9 @@ pub fn edges() -> Vec<Edge> {
         held_branches(),
         held_words(),
         first_events(),
+        first_named(),
+        first_named_elsewhere(),
+        first_events_of_branches(),
         short_buffers(),
         across_the_top(),
         most_places(),
@@ -446,8 +545,8 @@ pub fn edges_file() -> Vec<u8> {
     [bytes([cases.len() as u32]), cases.concat()].concat()
 }
 
-/// Inputs of the listing program, each with how its output starts: around 0 and 1,024 bytes, a refusal of each number
-/// that it can meet, and 512 and 513 places.
+/// Inputs of the listing program, each with how its output starts: 01's, conditional branches, around 0 and 1,024
+/// bytes, a refusal of each number that it can meet, and 512 and 513 places.
 pub fn listings() -> Vec<(Vec<u8>, &'static str)> {
     let zeros = |length| vec![0; length];
     // be to far outside, but for some adds at the end: plain places of 256 words and the end, a slot after each be,
@@ -460,6 +559,8 @@ pub fn listings() -> Vec<(Vec<u8>, &'static str)> {
     let tables = "place address next kind record\n0 0 4 0 0\n";
     vec![
         (bytes(LISTED), "place address next kind record\n0 0 4 0 0\n1 4 12 1 1\n2 12 16 0 3\nkind first second\n5 1 0\n1 2181062657 0\n5 3 0\n1 2446336000 0\n"),
+        (bytes([over(BE, 3), ADD, TA | 1, TA]), "place address next kind record\n0 0 4 0 0\n1 4 8 0 2\n2 4 12 1 4\n3 8 12 0 6\n4 12 16 0 7\nkind first second\n4 1 4\n5 2 0\n1 2181062657 0\n5 6 0\n1 2181062657 0\n5 7 0\n1 2446336001 0\n1 2446336000 0\n"),
+        (bytes([over(BE | ANNUL, 3), ADD, TA | 1, TA]), "place address next kind record\n0 0 4 0 0\n1 8 12 0 2\n2 4 12 1 3\n3 12 16 0 5\nkind first second\n4 1 3\n5 2 0\n1 2446336001 0\n1 2181062657 0\n5 5 0\n1 2446336000 0\n"),
         (zeros(0), "refused detail\n1 0\n"),
         (zeros(1), "refused detail\n1 1\n"),
         (zeros(3), "refused detail\n1 3\n"),

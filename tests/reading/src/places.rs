@@ -103,9 +103,9 @@ pub fn followers(image: Image, place: Place) -> Vec<Place> {
                 // "Bicc 8 to t: (n, t); with annul, plain t."
                 (8, false) => vec![Place::pair(n, t)],
                 (8, true) => vec![Place::Plain(t)],
-                // "other Bicc to t: (n, t), then plain n; with annul, (n, t), then plain n + 4."
-                (_, false) => vec![Place::pair(n, t), Place::Plain(n)],
-                (_, true) => vec![Place::pair(n, t), Place::Plain(after_n)],
+                // "other Bicc to t": the same two as in 01, and 02, N6: "the plain place is named before (n, t)".
+                (_, false) => vec![Place::Plain(n), Place::pair(n, t)],
+                (_, true) => vec![Place::Plain(after_n), Place::pair(n, t)],
             }
         }
         // "jmpl: held n, then plain p + 8 if rd is not 0."

@@ -82,10 +82,10 @@ pub fn group(image: Image, place: Place, record_of: &dyn Fn(Place) -> u32) -> Ve
             condition: 0 | 8, ..
         } => vec![go_first],
         // "Other Bicc: 4, 5." "A 4 carries the word's condition and goes to (n, t), the 5 after it to the
-        // other follower".
+        // other follower"; 02, N6: (n, t) is named second.
         Instruction::Bicc { condition, .. } => vec![
-            Record::go_if(condition, record_of(named[0])),
-            Record::go(record_of(named[1])),
+            Record::go_if(condition, record_of(named[1])),
+            Record::go(record_of(named[0])),
         ],
         // "Call: 2 (p), 5."
         Instruction::Call { .. } => vec![Record::link(p), go_first],

@@ -1,4 +1,4 @@
-use Rattle.places.proofs.Flows.{never-names, always-names, always-annuls, depends-names}
+use Rattle.model.proofs.Branches.{never-names, always-names, always-annuls, depends-names}
 use Rattle.places.proofs.Walking.{known-two}
 use borrow.Author.Needs.{needs}
 use Rattle.places.proofs.worklist.add_branch.Statement.{statement}
@@ -40,24 +40,24 @@ returns-3 c = let b = c .before .before .before .before .before .before in
     let s = b .before .before .before .before in
     rw (always-names (s .args .cond) (s .args .annul) (s .args .t .0) (s .args .n .0) (b .before .if2 .taken) (b .if3 .left)) (c .before .before .add-pair .ensures)
 
-add-pair-requires-2 : tie.Need-add-pair-requires-2
-add-pair-requires-2 c κs = search needs
-
 untaken-requires-2 : tie.Need-untaken-requires-2
 untaken-requires-2 c κs = search needs
 
-then-plain-requires : tie.Need-then-plain-requires
-then-plain-requires c κs = search needs
+add-plain-requires-3 : tie.Need-add-plain-requires-3
+add-plain-requires-3 c κs = search needs
+
+then-pair-requires : tie.Need-then-pair-requires
+then-pair-requires c κs = search needs
 
 same-length-4 : tie.Need-same-length-4
 same-length-4 c = search needs
 
 returns-4 : tie.Need-returns-4
-returns-4 c = let b = c .before .before .before .before .before .before .before .before .before in
-    let d = b .before .before .before .before in
+returns-4 c = let b = c .before .before .before .before .before .before .before .before in
+    let d = b .before .before .before .before .before in
     let s = d .before .before .before in
-    rw (depends-names (s .args .cond) (s .args .annul) (s .args .t .0) (s .args .n .0) (d .before .if1 .left) (d .if2 .left), ← c .before .before .before .untaken2 .ensures)
-    (known-two _ _ _ _ _ _ (b .add-pair2 .ensures .reads) (c .before .before .then-plain .ensures))
+    rw (depends-names (s .args .cond) (s .args .annul) (s .args .t .0) (s .args .n .0) (d .before .if1 .left) (d .if2 .left), ← b .before .untaken2 .ensures)
+    (known-two _ _ _ _ _ _ (b .add-plain3 .ensures .reads) (c .before .before .then-pair .ensures))
 
 pub add-branch-spec : {M : Type 1} → statement M
 add-branch-spec =
@@ -73,8 +73,8 @@ add-branch-spec =
     add-pair-requires
     same-length-3
     returns-3
-    add-pair-requires-2
     untaken-requires-2
-    then-plain-requires
+    add-plain-requires-3
+    then-pair-requires
     same-length-4
     returns-4)
