@@ -3,7 +3,7 @@ ghost use mathlib.Core.Path.{_≡_};
 ghost use Rattle.numbers.specs.Choice.{pick};
 ghost use Rattle.numbers.specs.Number.{plus};
 ghost use Rattle.model.specs.OldCore.{wordIn};
-ghost use Rattle.model.specs.Places.{mayBeHeld};
+ghost use Rattle.model.specs.Places.{unimpIn, mayBeHeld};
 ghost use Rattle.places.specs.Control.{wordOf, transferred};
 use machine::SourcePc;
 use machine::further;
@@ -33,6 +33,17 @@ pub fn untaken(annul: bool, n: SourcePc) -> SourcePc
         return further(n, 4);
     }
     n
+}
+
+// Whether an unimp stands behind the delay slot of a call at p: the callee of a call that returns a record returns past it.
+pub fn returns_past(image: &[u8], base: u32, p: SourcePc) -> bool
+    ensures { λ r. ⌜ r ≡ unimpIn (wordIn (now (image .entry)) base (plus (p .0) 8)) ⌝ }
+{
+    let f = fetch(image, base, further(p, 8));
+    match f {
+        Fetched::Word(word) => words::is_unimp(word),
+        Fetched::Outside => false,
+    }
 }
 
 // Whether a word may stand held: no call, no jmpl, and of the branches one that is never taken and annuls nothing.
