@@ -1,6 +1,6 @@
 -- Laws of the walk, and of the code's answers read with a table.
 use Rattle.numbers.proofs.Lists.{at-up, past-up, drop-up, drop-all-up}
-use Rattle.numbers.specs.Number.{numberAt, upTo, numbersOf}
+use Rattle.numbers.specs.Number.{plus, numberAt, upTo, numbersOf}
 use Rattle.numbers.specs.Choice.{pick}
 use Rattle.words.specs.Reader.{instructionOf}
 use Rattle.words.specs.Flow.{flowOf}
@@ -9,7 +9,7 @@ use Rattle.words.specs.declared.Flow.{Flow}
 use Rattle.model.specs.OldCore.{wordIn, transferOf}
 use Rattle.model.specs.declared.Place.{Place}
 use Rattle.model.specs.declared.Place.the-variants.{Pair, Held}
-use Rattle.model.specs.Places.{plain, placeAt, member, names, namesAt, followers, mayBeHeld, mayBeHeldAt, allowed, plains}
+use Rattle.model.specs.Places.{plain, placeAt, member, returnNames, names, namesAt, unimpIn, followers, mayBeHeld, mayBeHeldAt, allowed, plains}
 use Rattle.places.proofs.Rows.{length-places, places-put, at-place}
 use Rattle.places.proofs.Chains.{member-number}
 use Rattle.places.proofs.Flows.{by-flow, fetched-none, fetched-some}
@@ -133,15 +133,27 @@ grow-cons cap ps x xs = go (member ps x) (ltb (length ps) cap)
     go false true = refl
     go false false = refl
 
--- what is known of two places that were added, one after the other
-pub known-two : (cap : ℕ) (ps : List Place) (x y : Place) (w : Found) (u : List ℕ) {r : Found} {t h l : List ℕ} → seen w u ≡ grow cap ps (x ∷ [])
-    → Known cap (grown (λ qs. grow cap qs (y ∷ [])) (seen w u)) r t h l → Known cap (grow cap ps (x ∷ y ∷ [])) r t h l
-known-two cap ps x y w u e k = known-by (grow-cons cap ps x (y ∷ [])) (rw e at k)
+-- what is known of a place and others that were added, one after the other
+pub known-cons : (cap : ℕ) (ps : List Place) (x : Place) (xs : List Place) (w : Found) (u : List ℕ) {r : Found} {t h l : List ℕ} → seen w u ≡ grow cap ps (x ∷ [])
+    → Known cap (grown (λ qs. grow cap qs xs) (seen w u)) r t h l → Known cap (grow cap ps (x ∷ xs)) r t h l
+known-cons cap ps x xs w u e k = known-by (grow-cons cap ps x xs) (rw e at k)
+
+-- and the same after an answer that is known
+pub known-further : (cap : ℕ) (s : Walked) (x : Place) (xs : List Place) (w : Found) (u : List ℕ) {r : Found} {t h l : List ℕ}
+    → seen w u ≡ grown (λ qs. grow cap qs (x ∷ [])) s
+    → Known cap (grown (λ qs. grow cap qs xs) (seen w u)) r t h l → Known cap (grown (λ qs. grow cap qs (x ∷ xs)) s) r t h l
+unfolding grown
+known-further cap s x xs w u e k = known-by (go s) (rw e at k)
+  where
+    go : (v : Walked) → grown (λ qs. grow cap qs xs) (grown (λ qs. grow cap qs (x ∷ [])) v) ≡ grown (λ qs. grow cap qs (x ∷ xs)) v
+    go (table ps) = grow-cons cap ps x xs
+    go (refused n a) = refl
+    go endless = refl
 
 -- what the flow of a word says of a place that has it
-names-flow : (i : Instruction) (p n : ℕ) → names (transferred (flowOf i)) p n ≡ names (transferOf i) p n
+names-flow : (i : Instruction) (unimp : Bool) (p n : ℕ) → names (transferred (flowOf i)) unimp p n ≡ names (transferOf i) unimp p n
 unfolding names
-names-flow i p n = by-flow (λ t. names t p n) (λ rd rs1 x. refl) i
+names-flow i unimp p n = by-flow (λ t. names t unimp p n) (λ rd rs1 x. refl) i
 
 held-flow : (i : Instruction) → mayBeHeld (transferred (flowOf i)) ≡ mayBeHeld (transferOf i)
 unfolding mayBeHeld
@@ -172,11 +184,12 @@ module _ (image : List ℕ) (base cap : ℕ) (ps : List Place) (p n k : ℕ) {f 
         go false = refl
 
     pub handled-pair : {held : Bool} → held ≡ eqb k 2 → held ≡ false
-        → grow cap ps (names (transferred v) p n) ≡ handled image base cap ps (placeOf p n k)
+        → grow cap ps (names (transferred v) (unimpIn (wordIn image base (plus p 8))) p n) ≡ handled image base cap ps (placeOf p n k)
     unfolding handled placeOf allowed followers namesAt tested
     handled-pair a b =
-        rw (← a, b, here, i, names-flow (instructionOf word) p n)
-        (sym (grown-table image base (grow cap ps (names (transferOf (instructionOf word)) p n))))
+        let unimp = unimpIn (wordIn image base (plus p 8)) in
+        rw (← a, b, here, i, names-flow (instructionOf word) unimp p n)
+        (sym (grown-table image base (grow cap ps (names (transferOf (instructionOf word)) unimp p n))))
 
 -- what is known after a held place
 pub held-known : (p : ℕ) (b : Bool) {room n : ℕ} {w : Walked} {r : Found} {t h l : List ℕ} → r ≡ pick b (Places n) (Forbidden p) → seen r t ≡ w

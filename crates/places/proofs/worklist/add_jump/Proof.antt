@@ -1,6 +1,6 @@
 use Rattle.model.specs.Places.{names}
 use Rattle.places.specs.Control.{transferred}
-use Rattle.places.proofs.Walking.{known-two}
+use Rattle.places.proofs.Walking.{known-cons}
 use borrow.Author.Tests.{eq-eqb, ne-eqb}
 use borrow.Author.Needs.{needs}
 use Rattle.places.proofs.worklist.add_jump.Statement.{statement}
@@ -16,19 +16,16 @@ returns : tie.Need-returns
 unfolding names transferred
 returns c = rw (eq-eqb _ _ (c .if1 .taken)) (c .before .before .before .add-held .ensures)
 
-further-requires : tie.Need-further-requires
-further-requires c κs = search needs
-
-then-plain-requires : tie.Need-then-plain-requires
-then-plain-requires c κs = search needs
+then-returns-requires : tie.Need-then-returns-requires
+then-returns-requires c κs = search needs
 
 same-length-2 : tie.Need-same-length-2
 same-length-2 c = search needs
 
 returns-2 : tie.Need-returns-2
 unfolding names transferred
-returns-2 c = let b = c .before .before .before .before .before .before .before in
-    rw (ne-eqb _ _ (b .if1 .left), ← c .before .before .before .further .ensures) (known-two _ _ _ _ _ _ (b .before .before .before .add-held .ensures .reads) (c .before .before .then-plain .ensures))
+returns-2 c = let b = c .before .before .before .before .before .before in
+    rw (ne-eqb _ _ (b .if1 .left)) (known-cons _ _ _ _ _ _ (b .before .before .before .add-held .ensures .reads) (c .before .before .then-returns .ensures))
 
 pub add-jump-spec : {M : Type 1} → statement M
 add-jump-spec =
@@ -37,7 +34,6 @@ add-jump-spec =
     add-held-requires
     same-length
     returns
-    further-requires
-    then-plain-requires
+    then-returns-requires
     same-length-2
     returns-2)

@@ -2,7 +2,7 @@ use Rattle.model.specs.Places.{names}
 use Rattle.model.specs.Walk.{grow}
 use Rattle.places.specs.Control.{transferred}
 use Rattle.places.specs.Walk.{seen}
-use Rattle.places.proofs.Walking.{still, known-two}
+use Rattle.places.proofs.Walking.{still, known-cons}
 use mathlib.Core.Path.{refl}
 use borrow.Author.Needs.{needs}
 use Rattle.places.proofs.worklist.add_names.Statement.{statement}
@@ -29,11 +29,8 @@ target-requires c κs = search needs
 add-pair-requires : tie.Need-add-pair-requires
 add-pair-requires c κs = search needs
 
-further-requires : tie.Need-further-requires
-further-requires c κs = search needs
-
-then-plain-requires : tie.Need-then-plain-requires
-then-plain-requires c κs = search needs
+then-returns-requires : tie.Need-then-returns-requires
+then-returns-requires c κs = search needs
 
 enum-known-f-2 : tie.Need-enum-known-f-2
 enum-known-f-2 c = search needs
@@ -52,11 +49,11 @@ add-jump-requires c κs = search needs
 
 returns : tie.Need-returns
 unfolding names transferred grow seen
-returns c = rw (c .enum-told .given .1) (still refl (c .before .before .before .pre))
+returns c = rw (c .enum-told .given .1) (still refl (c .before .before .before .before .pre))
 
 returns-2 : tie.Need-returns-2
 unfolding names transferred grow seen
-returns-2 c = rw (c .enum-told2 .given .1) (still refl (c .before .before .before .pre))
+returns-2 c = rw (c .enum-told2 .given .1) (still refl (c .before .before .before .before .pre))
 
 same-length : tie.Need-same-length
 same-length c = search needs
@@ -70,8 +67,8 @@ same-length-2 c = search needs
 
 returns-4 : tie.Need-returns-4
 unfolding names transferred
-returns-4 c = let b = c .before .before .before .before .before .before .before .before .before in
-    rw (b .before .before .before .before .before .before .f .given .1, ← b .before .target .ensures, ← c .before .before .before .further .ensures) (known-two _ _ _ _ _ _ (b .add-pair .ensures .reads) (c .before .before .then-plain .ensures))
+returns-4 c = let b = c .before .before .before .before .before .before .before .before in
+    rw (b .before .before .before .before .before .before .f .given .1, ← b .before .target .ensures) (known-cons _ _ _ _ _ _ (b .add-pair .ensures .reads) (c .before .before .then-returns .ensures))
 
 same-length-3 : tie.Need-same-length-3
 same-length-3 c = search needs
@@ -97,8 +94,7 @@ add-names-spec =
     enum-known-f
     target-requires
     add-pair-requires
-    further-requires
-    then-plain-requires
+    then-returns-requires
     enum-known-f-2
     target-requires-2
     add-branch-requires
