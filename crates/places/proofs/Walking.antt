@@ -9,7 +9,7 @@ use Rattle.words.specs.declared.Flow.{Flow}
 use Rattle.model.specs.OldCore.{wordIn, transferOf}
 use Rattle.model.specs.declared.Place.{Place}
 use Rattle.model.specs.declared.Place.the-variants.{Pair, Held}
-use Rattle.model.specs.Places.{plain, placeAt, member, returnNames, names, namesAt, unimpIn, followers, mayBeHeld, mayBeHeldAt, allowed, plains}
+use Rattle.model.specs.Places.{plain, placeAt, member, names, namesAt, unimpIn, followers, mayBeHeld, mayBeHeldAt, allowed, plains}
 use Rattle.places.proofs.Rows.{length-places, places-put, at-place}
 use Rattle.places.proofs.Chains.{member-number}
 use Rattle.places.proofs.Flows.{by-flow, fetched-none, fetched-some}
@@ -107,48 +107,43 @@ pub still : {room n : ℕ} {w : Walked} {t h l : List ℕ} → seen (Places n) t
 unfolding ReadyBy
 still e i = record { reads = e; ready = i }
 
--- a place handled, with nothing after it, and then the rest
-module _ (image : List ℕ) (base : ℕ) where
-  grown-table : (w : Walked) → grown table w ≡ w
-  unfolding grown
-  grown-table (table ps) = refl
-  grown-table (refused n a) = refl
-  grown-table endless = refl
+-- nothing after a walk
+grown-table : (w : Walked) → grown table w ≡ w
+unfolding grown
+grown-table (table ps) = refl
+grown-table (refused n a) = refl
+grown-table endless = refl
 
-  tested-grown : (rest : List Place → Walked) (cap : ℕ) (ps : List Place) (x : Place) (b : Bool)
-      → grown rest (tested image base table cap ps x b) ≡ tested image base rest cap ps x b
-  unfolding tested grown
-  tested-grown rest cap ps x false = refl
-  tested-grown rest cap ps x true = rw (grown-table (grow cap ps (followers image base x)))
+-- a place handled, with nothing after it, and then the rest
+tested-grown : (image : List ℕ) (base : ℕ) (rest : List Place → Walked) (cap : ℕ) (ps : List Place) (x : Place) (b : Bool)
+    → grown rest (tested image base table cap ps x b) ≡ tested image base rest cap ps x b
+unfolding tested grown
+tested-grown image base rest cap ps x false = refl
+tested-grown image base rest cap ps x true = rw (grown-table (grow cap ps (followers image base x)))
 
 -- `grow` over a list is one `grow` after another
-pub grow-cons : (cap : ℕ) (ps : List Place) (x : Place) (xs : List Place)
-    → grown (λ qs. grow cap qs xs) (grow cap ps (x ∷ [])) ≡ grow cap ps (x ∷ xs)
+pub grow-append : (cap : ℕ) (ps xs ys : List Place) → grown (λ qs. grow cap qs ys) (grow cap ps xs) ≡ grow cap ps (xs ++ ys)
 unfolding grow grown
-grow-cons cap ps x xs = go (member ps x) (ltb (length ps) cap)
+grow-append cap ps [] ys = refl
+grow-append cap ps (x ∷ xs) ys =
+    go (member ps x) (ltb (length ps) cap) (grow-append cap ps xs ys) (grow-append cap (ps ++ (x ∷ [])) xs ys)
   where
-    go : (b t : Bool) → grown (λ qs. grow cap qs xs) (pick b (table ps) (pick t (table (ps ++ (x ∷ []))) (refused 5 (placeAt x))))
-        ≡ pick b (grow cap ps xs) (pick t (grow cap (ps ++ (x ∷ [])) xs) (refused 5 (placeAt x)))
-    go true t = refl
-    go false true = refl
-    go false false = refl
+    go : (b t : Bool) → grown (λ qs. grow cap qs ys) (grow cap ps xs) ≡ grow cap ps (xs ++ ys)
+        → grown (λ qs. grow cap qs ys) (grow cap (ps ++ (x ∷ [])) xs) ≡ grow cap (ps ++ (x ∷ [])) (xs ++ ys)
+        → grown (λ qs. grow cap qs ys) (pick b (grow cap ps xs) (pick t (grow cap (ps ++ (x ∷ [])) xs) (refused 5 (placeAt x))))
+        ≡ pick b (grow cap ps (xs ++ ys)) (pick t (grow cap (ps ++ (x ∷ [])) (xs ++ ys)) (refused 5 (placeAt x)))
+    go true t known added = known
+    go false true known added = added
+    go false false known added = refl
 
--- what is known of a place and others that were added, one after the other
-pub known-cons : (cap : ℕ) (ps : List Place) (x : Place) (xs : List Place) (w : Found) (u : List ℕ) {r : Found} {t h l : List ℕ} → seen w u ≡ grow cap ps (x ∷ [])
-    → Known cap (grown (λ qs. grow cap qs xs) (seen w u)) r t h l → Known cap (grow cap ps (x ∷ xs)) r t h l
-known-cons cap ps x xs w u e k = known-by (grow-cons cap ps x xs) (rw e at k)
+-- what is known of places that were added after others
+pub known-append : (cap : ℕ) (ps xs ys : List Place) (w : Found) (u : List ℕ) {r : Found} {t h l : List ℕ} → seen w u ≡ grow cap ps xs
+    → Known cap (grown (λ qs. grow cap qs ys) (seen w u)) r t h l → Known cap (grow cap ps (xs ++ ys)) r t h l
+known-append cap ps xs ys w u e k = known-by (grow-append cap ps xs ys) (rw e at k)
 
--- and the same after an answer that is known
-pub known-further : (cap : ℕ) (s : Walked) (x : Place) (xs : List Place) (w : Found) (u : List ℕ) {r : Found} {t h l : List ℕ}
-    → seen w u ≡ grown (λ qs. grow cap qs (x ∷ [])) s
-    → Known cap (grown (λ qs. grow cap qs xs) (seen w u)) r t h l → Known cap (grown (λ qs. grow cap qs (x ∷ xs)) s) r t h l
-unfolding grown
-known-further cap s x xs w u e k = known-by (go s) (rw e at k)
-  where
-    go : (v : Walked) → grown (λ qs. grow cap qs xs) (grown (λ qs. grow cap qs (x ∷ [])) v) ≡ grown (λ qs. grow cap qs (x ∷ xs)) v
-    go (table ps) = grow-cons cap ps x xs
-    go (refused n a) = refl
-    go endless = refl
+pub known-none : (cap : ℕ) (w : Found) {t h l : List ℕ} → ReadyBy cap w t h l → Known cap (grown (λ qs. grow cap qs []) (seen w t)) w t h l
+unfolding grow
+known-none cap w {t} x = record { reads = sym (grown-table (seen w t)); ready = x }
 
 -- what the flow of a word says of a place that has it
 names-flow : (i : Instruction) (unimp : Bool) (p n : ℕ) → names (transferred (flowOf i)) unimp p n ≡ names (transferOf i) unimp p n
@@ -189,7 +184,7 @@ module _ (image : List ℕ) (base cap : ℕ) (ps : List Place) (p n k : ℕ) {f 
     handled-pair a b =
         let unimp = unimpIn (wordIn image base (plus p 8)) in
         rw (← a, b, here, i, names-flow (instructionOf word) unimp p n)
-        (sym (grown-table image base (grow cap ps (names (transferOf (instructionOf word)) unimp p n))))
+        (sym (grown-table (grow cap ps (names (transferOf (instructionOf word)) unimp p n))))
 
 -- what is known after a held place
 pub held-known : (p : ℕ) (b : Bool) {room n : ℕ} {w : Walked} {r : Found} {t h l : List ℕ} → r ≡ pick b (Places n) (Forbidden p) → seen r t ≡ w
@@ -227,7 +222,7 @@ pub start-turn : (l : List ℕ) (k j v : ℕ) (cap n : ℕ) (t t′ : List ℕ) 
 unfolding plains numbersOf
 start-turn l k j v cap n t t′ w h e s =
     rw (s, add-one j, drop-up (λ i. numberAt l (4 * i)) k j h, ← e)
-    (grow-cons cap (placesIn t n) (plain v) (plains (drop (suc j) (numbersOf l k))))
+    (grow-append cap (placesIn t n) (plain v ∷ []) (plains (drop (suc j) (numbersOf l k))))
 
 pub start-end : (l : List ℕ) (k j cap n : ℕ) (t : List ℕ) → k ≤ j → seen (Places n) t ≡ grow cap (placesIn t n) (plains (drop j (numbersOf l k)))
 unfolding plains numbersOf grow seen

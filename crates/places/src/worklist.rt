@@ -3,9 +3,10 @@ ghost use mathlib.Core.Path.{_≡_};
 ghost use mathlib.Core.List.{[], _∷_};
 ghost use Rattle.words.specs.declared.Flow.the-variants.{Jumps};
 ghost use Rattle.model.specs.declared.Place.the-variants.{Pair, Held};
+ghost use Rattle.numbers.specs.Choice.{pick};
 ghost use Rattle.numbers.specs.Number.{plus};
 ghost use Rattle.model.specs.OldCore.{wordIn};
-ghost use Rattle.model.specs.Places.{plain, whichOf, biccNames, returnNames, unimpIn, names};
+ghost use Rattle.model.specs.Places.{plain, whichOf, biccNames, unimpIn, names};
 ghost use Rattle.model.specs.Walk.{grow, grown};
 ghost use Rattle.places.specs.Control.{transferred};
 ghost use Rattle.places.specs.Table.{placeOf, placesIn, Shows};
@@ -171,8 +172,8 @@ fn add_branch(
     then_pair(places, heads, links, w, room, n, t)
 }
 
-// Adds where a call comes back to, after its other follower, if there was room for that.
-fn then_returns(
+// Adds, after the other followers of a call at p, plain p + 12 where an unimp stands at p + 8.
+fn then_past(
     image: &[u8],
     base: u32,
     places: &mut [u8],
@@ -183,13 +184,12 @@ fn then_returns(
     p: SourcePc,
 ) -> Found
     requires { ⌜ ReadyBy room w (now places) (now heads) (now links) ⌝ }
-    ensures { λ r. ⌜ Known room (grown (λ ps. grow room ps (returnNames (unimpIn (wordIn (now (image .entry)) base (plus (p .0) 8))) (p .0))) (seen w (now (places .entry)))) r (now (places .exit)) (now (heads .exit)) (now (links .exit)) ⌝ }
+    ensures { λ r. ⌜ Known room (grown (λ ps. grow room ps (pick (unimpIn (wordIn (now (image .entry)) base (plus (p .0) 8))) (plain (plus (p .0) 12) ∷ []) [])) (seen w (now (places .entry)))) r (now (places .exit)) (now (heads .exit)) (now (links .exit)) ⌝ }
 {
-    let v = then_plain(places, heads, links, w, room, further(p, 8));
     if returns_past(image, base, p) {
-        return then_plain(places, heads, links, v, room, further(p, 12));
+        return then_plain(places, heads, links, w, room, further(p, 12));
     }
-    v
+    w
 }
 
 // Adds what a jmpl names: what follows the delay slot is known only when run, and comes back only to a link.
@@ -212,7 +212,8 @@ fn add_jump(
     if rd == 0 {
         return w;
     }
-    then_returns(image, base, places, heads, links, w, room, p)
+    let v = then_plain(places, heads, links, w, room, further(p, 8));
+    then_past(image, base, places, heads, links, v, room, p)
 }
 
 // Adds what a word at (p, n) names, in its order.
@@ -237,7 +238,8 @@ pub fn add_names(
         Flow::Continues => add_plain(places, heads, links, count, room, n),
         Flow::Calls(disp) => {
             let w = add_pair(places, heads, links, count, room, n, target(p, disp));
-            then_returns(image, base, places, heads, links, w, room, p)
+            let v = then_plain(places, heads, links, w, room, further(p, 8));
+            then_past(image, base, places, heads, links, v, room, p)
         }
         Flow::Branches(cond, annul, disp) => {
             let t = target(p, disp);

@@ -1,6 +1,6 @@
-use Rattle.model.specs.Places.{names}
+use Rattle.model.specs.Places.{returnNames, names}
 use Rattle.places.specs.Control.{transferred}
-use Rattle.places.proofs.Walking.{known-cons}
+use Rattle.places.proofs.Walking.{known-append}
 use borrow.Author.Tests.{eq-eqb, ne-eqb}
 use borrow.Author.Needs.{needs}
 use Rattle.places.proofs.worklist.add_jump.Statement.{statement}
@@ -16,16 +16,24 @@ returns : tie.Need-returns
 unfolding names transferred
 returns c = rw (eq-eqb _ _ (c .if1 .taken)) (c .before .before .before .add-held .ensures)
 
-then-returns-requires : tie.Need-then-returns-requires
-then-returns-requires c κs = search needs
+further-requires : tie.Need-further-requires
+further-requires c κs = search needs
+
+then-plain-requires : tie.Need-then-plain-requires
+then-plain-requires c κs = search needs
+
+then-past-requires : tie.Need-then-past-requires
+then-past-requires c κs = search needs
 
 same-length-2 : tie.Need-same-length-2
 same-length-2 c = search needs
 
 returns-2 : tie.Need-returns-2
-unfolding names transferred
-returns-2 c = let b = c .before .before .before .before .before .before in
-    rw (ne-eqb _ _ (b .if1 .left)) (known-cons _ _ _ _ _ _ (b .before .before .before .add-held .ensures .reads) (c .before .before .then-returns .ensures))
+unfolding names returnNames transferred
+returns-2 c = let b = c .before .before .before .before .before .before .before .before in
+    let d = b .before .before .before .before .before in
+    rw (ne-eqb _ _ (d .if1 .left))
+    (known-append _ _ _ _ _ _ (known-append _ _ _ _ _ _ (d .before .before .before .add-held .ensures .reads) (rw (b .before .further .ensures) at (b .then-plain .ensures)) .reads) (c .before .before .then-past .ensures))
 
 pub add-jump-spec : {M : Type 1} → statement M
 add-jump-spec =
@@ -34,6 +42,8 @@ add-jump-spec =
     add-held-requires
     same-length
     returns
-    then-returns-requires
+    further-requires
+    then-plain-requires
+    then-past-requires
     same-length-2
     returns-2)

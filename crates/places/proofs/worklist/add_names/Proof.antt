@@ -1,8 +1,8 @@
-use Rattle.model.specs.Places.{names}
+use Rattle.model.specs.Places.{returnNames, names}
 use Rattle.model.specs.Walk.{grow}
 use Rattle.places.specs.Control.{transferred}
 use Rattle.places.specs.Walk.{seen}
-use Rattle.places.proofs.Walking.{still, known-cons}
+use Rattle.places.proofs.Walking.{still, known-append}
 use mathlib.Core.Path.{refl}
 use borrow.Author.Needs.{needs}
 use Rattle.places.proofs.worklist.add_names.Statement.{statement}
@@ -29,8 +29,14 @@ target-requires c κs = search needs
 add-pair-requires : tie.Need-add-pair-requires
 add-pair-requires c κs = search needs
 
-then-returns-requires : tie.Need-then-returns-requires
-then-returns-requires c κs = search needs
+further-requires : tie.Need-further-requires
+further-requires c κs = search needs
+
+then-plain-requires : tie.Need-then-plain-requires
+then-plain-requires c κs = search needs
+
+then-past-requires : tie.Need-then-past-requires
+then-past-requires c κs = search needs
 
 enum-known-f-2 : tie.Need-enum-known-f-2
 enum-known-f-2 c = search needs
@@ -66,9 +72,11 @@ same-length-2 : tie.Need-same-length-2
 same-length-2 c = search needs
 
 returns-4 : tie.Need-returns-4
-unfolding names transferred
+unfolding names returnNames transferred
 returns-4 c = let b = c .before .before .before .before .before .before .before .before in
-    rw (b .before .before .before .before .before .before .f .given .1, ← b .before .target .ensures) (known-cons _ _ _ _ _ _ (b .add-pair .ensures .reads) (c .before .before .then-returns .ensures))
+    let d = b .before .before .before .before .before .before .before in
+    rw (d .before .before .before .before .before .before .f .given .1, ← d .before .target .ensures)
+    (known-append _ _ _ _ _ _ (known-append _ _ _ _ _ _ (d .add-pair .ensures .reads) (rw (b .before .further .ensures) at (b .then-plain .ensures)) .reads) (c .before .before .then-past .ensures))
 
 same-length-3 : tie.Need-same-length-3
 same-length-3 c = search needs
@@ -94,7 +102,9 @@ add-names-spec =
     enum-known-f
     target-requires
     add-pair-requires
-    then-returns-requires
+    further-requires
+    then-plain-requires
+    then-past-requires
     enum-known-f-2
     target-requires-2
     add-branch-requires
