@@ -107,19 +107,19 @@ pub still : {room n : ℕ} {w : Walked} {t h l : List ℕ} → seen (Places n) t
 unfolding ReadyBy
 still e i = record { reads = e; ready = i }
 
--- nothing after a walk
-grown-table : (w : Walked) → grown table w ≡ w
-unfolding grown
-grown-table (table ps) = refl
-grown-table (refused n a) = refl
-grown-table endless = refl
-
 -- a place handled, with nothing after it, and then the rest
-tested-grown : (image : List ℕ) (base : ℕ) (rest : List Place → Walked) (cap : ℕ) (ps : List Place) (x : Place) (b : Bool)
-    → grown rest (tested image base table cap ps x b) ≡ tested image base rest cap ps x b
-unfolding tested grown
-tested-grown image base rest cap ps x false = refl
-tested-grown image base rest cap ps x true = rw (grown-table (grow cap ps (followers image base x)))
+module _ (image : List ℕ) (base : ℕ) where
+  grown-table : (w : Walked) → grown table w ≡ w
+  unfolding grown
+  grown-table (table ps) = refl
+  grown-table (refused n a) = refl
+  grown-table endless = refl
+
+  tested-grown : (rest : List Place → Walked) (cap : ℕ) (ps : List Place) (x : Place) (b : Bool)
+      → grown rest (tested image base table cap ps x b) ≡ tested image base rest cap ps x b
+  unfolding tested grown
+  tested-grown rest cap ps x false = refl
+  tested-grown rest cap ps x true = rw (grown-table (grow cap ps (followers image base x)))
 
 -- `grow` over a list is one `grow` after another
 pub grow-append : (cap : ℕ) (ps xs ys : List Place) → grown (λ qs. grow cap qs ys) (grow cap ps xs) ≡ grow cap ps (xs ++ ys)
@@ -140,10 +140,6 @@ grow-append cap ps (x ∷ xs) ys =
 pub known-append : (cap : ℕ) (ps xs ys : List Place) (w : Found) (u : List ℕ) {r : Found} {t h l : List ℕ} → seen w u ≡ grow cap ps xs
     → Known cap (grown (λ qs. grow cap qs ys) (seen w u)) r t h l → Known cap (grow cap ps (xs ++ ys)) r t h l
 known-append cap ps xs ys w u e k = known-by (grow-append cap ps xs ys) (rw e at k)
-
-pub known-none : (cap : ℕ) (w : Found) {t h l : List ℕ} → ReadyBy cap w t h l → Known cap (grown (λ qs. grow cap qs []) (seen w t)) w t h l
-unfolding grow
-known-none cap w {t} x = record { reads = sym (grown-table (seen w t)); ready = x }
 
 -- what the flow of a word says of a place that has it
 names-flow : (i : Instruction) (unimp : Bool) (p n : ℕ) → names (transferred (flowOf i)) unimp p n ≡ names (transferOf i) unimp p n
@@ -184,7 +180,7 @@ module _ (image : List ℕ) (base cap : ℕ) (ps : List Place) (p n k : ℕ) {f 
     handled-pair a b =
         let unimp = unimpIn (wordIn image base (plus p 8)) in
         rw (← a, b, here, i, names-flow (instructionOf word) unimp p n)
-        (sym (grown-table (grow cap ps (names (transferOf (instructionOf word)) unimp p n))))
+        (sym (grown-table image base (grow cap ps (names (transferOf (instructionOf word)) unimp p n))))
 
 -- what is known after a held place
 pub held-known : (p : ℕ) (b : Bool) {room n : ℕ} {w : Walked} {r : Found} {t h l : List ℕ} → r ≡ pick b (Places n) (Forbidden p) → seen r t ≡ w

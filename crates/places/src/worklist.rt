@@ -186,10 +186,16 @@ fn then_past(
     requires { ⌜ ReadyBy room w (now places) (now heads) (now links) ⌝ }
     ensures { λ r. ⌜ Known room (grown (λ ps. grow room ps (pick (unimpIn (wordIn (now (image .entry)) base (plus (p .0) 8))) (plain (plus (p .0) 12) ∷ []) [])) (seen w (now (places .entry)))) r (now (places .exit)) (now (heads .exit)) (now (links .exit)) ⌝ }
 {
-    if returns_past(image, base, p) {
-        return then_plain(places, heads, links, w, room, further(p, 12));
+    match w {
+        Found::Places(count) => {
+            if returns_past(image, base, p) {
+                return add_plain(places, heads, links, count, room, further(p, 12));
+            }
+            Found::Places(count)
+        }
+        Found::Forbidden(a) => Found::Forbidden(a),
+        Found::NoRoom(a) => Found::NoRoom(a),
     }
-    w
 }
 
 // Adds what a jmpl names: what follows the delay slot is known only when run, and comes back only to a link.
