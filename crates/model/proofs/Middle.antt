@@ -20,7 +20,7 @@ use Rattle.machine.proofs.Effects.{effects-end}
 use Rattle.model.specs.declared.Place.{Place}
 use Rattle.model.specs.declared.Place.the-variants.{Pair, Held}
 use Rattle.model.specs.OldCore.{wordIn, Transfer, illegal, straight, trap, call, bicc, jmpl, transferOf, target}
-use Rattle.model.specs.Places.{plain, member, Which, never, always, depends, whichOf, biccNames, names, namesAt, unimpIn, followers, mayBeHeld, mayBeHeldAt, allowed}
+use Rattle.model.specs.Places.{plain, member, Which, never, always, depends, whichOf, biccNames, names, namesAt, followers, mayBeHeld, mayBeHeldAt, allowed}
 use Rattle.model.proofs.Transfers.{trapEnd, trap-halts}
 use Rattle.model.proofs.Members.{AllIn}
 
@@ -177,5 +177,5 @@ module _ (image : List ℕ) (base db : ℕ) where
   pub out-ok : (ps : List Place) (pl : Place) (h : ℕ) (m : Machine) → h % 4 ≡ 0 → allowed image base pl ≡ true → AllIn ps (followers image base pl)
       → OutOk ps (out pl h m)
   unfolding allowed followers
-  out-ok ps (Pair p n) h m ah ok i = ok-at ps p n h m ah (wordIn image base p) (unimpIn (wordIn image base (plus p 8))) i
+  out-ok ps (Pair p n) h m ah ok i = ok-at ps p n h m ah (wordIn image base p) _ i
   out-ok ps (Held p) h m ah ok i = ok-held-at ps p p h m ah (wordIn image base p) ok
