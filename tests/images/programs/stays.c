@@ -1,5 +1,6 @@
 /* Stays in a car park as records of days, hours and minutes: functions that return records, in loops and one inside
  * another. */
+#include "copy.h"
 #include "image.h"
 
 enum { STAYS = 12 };
