@@ -2,7 +2,7 @@
 use Rattle.model.specs.Translation.{answerNumbers, badLength, badCount, badEntry, firstBad, placeRoom, filled, refusal, acceptance, fromWalk, translation}
 use Rattle.model.specs.Walk.{grow, grown, tested, handle, walk, placesOf}
 use Rattle.model.specs.Records.{numbersIn, rowAt, rowsIn, recordOf, recordAt, recordsIn, biccGroup, groupOf, heldGroupOf, groupAt, heldGroupAt, group, past, numbered, put, tableNumbers, recordNumbers, recordsNumbers, first, rowsFrom, recordsFrom, rowsOf, recordsOf}
-use Rattle.model.specs.Places.{kindOf, nextOf, placeAt, samePlace, member, whichOf, biccNames, returnNames, names, namesAt, unimpIn, followers, idleBicc, mayBeHeld, mayBeHeldAt, allowed, plains}
+use Rattle.model.specs.Places.{kindOf, nextOf, placeAt, samePlace, member, whichOf, biccNames, returnNames, names, namesAt, unimpIn, unimpBehind, followers, idleBicc, mayBeHeld, mayBeHeldAt, allowed, plains}
 use Rattle.numbers.specs.Number.{plus, minus, signed, numberAt, bytesOf, numbersOf, upTo}
 use Rattle.words.specs.Reader.{bits, bitSet, operandOf, format0Of, format2Of, format3Of, byFormat, instructionOf, isUnimp}
 use Rattle.words.specs.Conditions.{rows, bitAt, holdsOf, bitOf, nzvcOf}
@@ -64,7 +64,7 @@ old-open = tt
 
 -- places, and the walk that finds them
 places-open : Unit {0}
-unfolding kindOf nextOf placeAt samePlace member whichOf biccNames returnNames names namesAt unimpIn followers idleBicc mayBeHeld mayBeHeldAt allowed plains grow grown tested handle walk placesOf
+unfolding kindOf nextOf placeAt samePlace member whichOf biccNames returnNames names namesAt unimpIn unimpBehind followers idleBicc mayBeHeld mayBeHeldAt allowed plains grow grown tested handle walk placesOf
 places-open = tt
 
 -- records, and what is handed back

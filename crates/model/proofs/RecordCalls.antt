@@ -12,7 +12,7 @@ use Rattle.words.specs.declared.Instruction.{Instruction}
 use Rattle.words.specs.declared.Instruction.the-variants.{Call, Jmpl}
 use Rattle.model.specs.declared.Place.the-variants.{Pair, Held}
 use Rattle.model.specs.OldCore.{transferOf, target}
-use Rattle.model.specs.Places.{plain, member, returnNames, names, namesAt, unimpIn, followers, from-place}
+use Rattle.model.specs.Places.{plain, member, returnNames, names, namesAt, unimpIn, unimpBehind, followers, from-place}
 use Rattle.model.specs.RecordCalls.{Links, by-call, by-jmpl, RecordCalls}
 use Rattle.model.proofs.Members.{mem-here, mem-there}
 
@@ -28,6 +28,6 @@ named (Call disp) p n (by-call d) = mem-there _ _ _ (mem-there _ _ _ (mem-here _
 named (Jmpl rd rs1 x) p n (by-jmpl r s y h) = rw (ne-eqb rd 0 h) (mem-there _ _ _ (mem-there _ _ _ (mem-here _ _)))
 
 pub record-calls : RecordCalls
-unfolding RecordCalls followers namesAt unimpIn
+unfolding RecordCalls followers namesAt unimpIn unimpBehind
 record-calls image base entries p n word made w i high low h l u =
     from-place (Pair p n) (plain (plus p 12)) made (rw (w, u, unimp high low h l) (named (instructionOf word) p n i))

@@ -79,14 +79,17 @@ unfoldable pub namesAt : Option ℕ → Bool → ℕ → ℕ → List Place
 namesAt none unimp p n = []
 namesAt (some word) unimp p n = names (transferOf (instructionOf word)) unimp p n
 
--- 02, N1: "the word at p + 8 is in the image with bits 31, 30 and 24 to 22 all 0"
+-- 02, N1: "the word at p + 8 is in the image with bits 31, 30 and 24 to 22 all 0", where a call stands at p
 unfoldable pub unimpIn : Option ℕ → Bool
 unimpIn none = false
 unimpIn (some word) = isUnimp word
 
--- the followers of a pair look at two words, its own and the one at p + 8; "A held place has no followers."
+unfoldable pub unimpBehind : List ℕ → ℕ → ℕ → Bool
+unimpBehind image base p = unimpIn (wordIn image base (plus p 8))
+
+-- "A held place has no followers."
 unfoldable pub followers : List ℕ → ℕ → Place → List Place
-followers image base (Pair p n) = namesAt (wordIn image base p) (unimpIn (wordIn image base (plus p 8))) p n
+followers image base (Pair p n) = namesAt (wordIn image base p) (unimpBehind image base p) p n
 followers image base (Held p) = []
 
 -- a Bicc 0 without annul

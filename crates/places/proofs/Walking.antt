@@ -1,6 +1,6 @@
 -- Laws of the walk, and of the code's answers read with a table.
 use Rattle.numbers.proofs.Lists.{at-up, past-up, drop-up, drop-all-up}
-use Rattle.numbers.specs.Number.{plus, numberAt, upTo, numbersOf}
+use Rattle.numbers.specs.Number.{numberAt, upTo, numbersOf}
 use Rattle.numbers.specs.Choice.{pick}
 use Rattle.words.specs.Reader.{instructionOf}
 use Rattle.words.specs.Flow.{flowOf}
@@ -9,7 +9,7 @@ use Rattle.words.specs.declared.Flow.{Flow}
 use Rattle.model.specs.OldCore.{wordIn, transferOf}
 use Rattle.model.specs.declared.Place.{Place}
 use Rattle.model.specs.declared.Place.the-variants.{Pair, Held}
-use Rattle.model.specs.Places.{plain, placeAt, member, names, namesAt, unimpIn, followers, mayBeHeld, mayBeHeldAt, allowed, plains}
+use Rattle.model.specs.Places.{plain, placeAt, member, names, namesAt, unimpBehind, followers, mayBeHeld, mayBeHeldAt, allowed, plains}
 use Rattle.places.proofs.Rows.{length-places, places-put, at-place}
 use Rattle.places.proofs.Chains.{member-number}
 use Rattle.places.proofs.Flows.{by-flow, fetched-none, fetched-some}
@@ -175,10 +175,10 @@ module _ (image : List ℕ) (base cap : ℕ) (ps : List Place) (p n k : ℕ) {f 
         go false = refl
 
     pub handled-pair : {held : Bool} → held ≡ eqb k 2 → held ≡ false
-        → grow cap ps (names (transferred v) (unimpIn (wordIn image base (plus p 8))) p n) ≡ handled image base cap ps (placeOf p n k)
+        → grow cap ps (names (transferred v) (unimpBehind image base p) p n) ≡ handled image base cap ps (placeOf p n k)
     unfolding handled placeOf allowed followers namesAt tested
     handled-pair a b =
-        let unimp = unimpIn (wordIn image base (plus p 8)) in
+        let unimp = unimpBehind image base p in
         rw (← a, b, here, i, names-flow (instructionOf word) unimp p n)
         (sym (grown-table image base (grow cap ps (names (transferOf (instructionOf word)) unimp p n))))
 

@@ -5,14 +5,13 @@ ghost use Rattle.words.specs.declared.Flow.the-variants.{Jumps};
 ghost use Rattle.model.specs.declared.Place.the-variants.{Pair, Held};
 ghost use Rattle.numbers.specs.Choice.{pick};
 ghost use Rattle.numbers.specs.Number.{plus};
-ghost use Rattle.model.specs.OldCore.{wordIn};
-ghost use Rattle.model.specs.Places.{plain, whichOf, biccNames, unimpIn, names};
+ghost use Rattle.model.specs.Places.{plain, whichOf, biccNames, unimpBehind, names};
 ghost use Rattle.model.specs.Walk.{grow, grown};
 ghost use Rattle.places.specs.Control.{transferred};
 ghost use Rattle.places.specs.Table.{placeOf, placesIn, Shows};
 ghost use Rattle.places.specs.Index.{Ready, ReadyBy, Known};
 ghost use Rattle.places.specs.Walk.{seen, counted};
-use crate::control::returns_past;
+use crate::control::unimp_behind;
 use crate::control::untaken;
 use crate::index::enter;
 use crate::index::find;
@@ -184,11 +183,11 @@ fn then_past(
     p: SourcePc,
 ) -> Found
     requires { ⌜ ReadyBy room w (now places) (now heads) (now links) ⌝ }
-    ensures { λ r. ⌜ Known room (grown (λ ps. grow room ps (pick (unimpIn (wordIn (now (image .entry)) base (plus (p .0) 8))) (plain (plus (p .0) 12) ∷ []) [])) (seen w (now (places .entry)))) r (now (places .exit)) (now (heads .exit)) (now (links .exit)) ⌝ }
+    ensures { λ r. ⌜ Known room (grown (λ ps. grow room ps (pick (unimpBehind (now (image .entry)) base (p .0)) (plain (plus (p .0) 12) ∷ []) [])) (seen w (now (places .entry)))) r (now (places .exit)) (now (heads .exit)) (now (links .exit)) ⌝ }
 {
     match w {
         Found::Places(count) => {
-            if returns_past(image, base, p) {
+            if unimp_behind(image, base, p) {
                 return add_plain(places, heads, links, count, room, further(p, 12));
             }
             Found::Places(count)
@@ -212,7 +211,7 @@ fn add_jump(
     n: SourcePc,
 ) -> Found
     requires { ⌜ Ready room (now places) count (now heads) (now links) ⌝ }
-    ensures { λ r. ⌜ Known room (grow room (placesIn (now (places .entry)) count) (names (transferred (Jumps rd)) (unimpIn (wordIn (now (image .entry)) base (plus (p .0) 8))) (p .0) (n .0))) r (now (places .exit)) (now (heads .exit)) (now (links .exit)) ⌝ }
+    ensures { λ r. ⌜ Known room (grow room (placesIn (now (places .entry)) count) (names (transferred (Jumps rd)) (unimpBehind (now (image .entry)) base (p .0)) (p .0) (n .0))) r (now (places .exit)) (now (heads .exit)) (now (links .exit)) ⌝ }
 {
     let w = add_held(places, heads, links, count, room, n);
     if rd == 0 {
@@ -236,7 +235,7 @@ pub fn add_names(
     n: SourcePc,
 ) -> Found
     requires { ⌜ Ready room (now places) count (now heads) (now links) ⌝ }
-    ensures { λ r. ⌜ Known room (grow room (placesIn (now (places .entry)) count) (names (transferred f) (unimpIn (wordIn (now (image .entry)) base (plus (p .0) 8))) (p .0) (n .0))) r (now (places .exit)) (now (heads .exit)) (now (links .exit)) ⌝ }
+    ensures { λ r. ⌜ Known room (grow room (placesIn (now (places .entry)) count) (names (transferred f) (unimpBehind (now (image .entry)) base (p .0)) (p .0) (n .0))) r (now (places .exit)) (now (heads .exit)) (now (links .exit)) ⌝ }
 {
     match f {
         Flow::Faults => Found::Places(count),

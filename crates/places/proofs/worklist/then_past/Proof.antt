@@ -9,8 +9,8 @@ use Rattle.places.proofs.worklist.then_past.Tie as tie
 enum-known-w : tie.Need-enum-known-w
 enum-known-w c = search needs
 
-returns-past-requires : tie.Need-returns-past-requires
-returns-past-requires c κs = search needs
+unimp-behind-requires : tie.Need-unimp-behind-requires
+unimp-behind-requires c κs = search needs
 
 further-requires : tie.Need-further-requires
 further-requires c κs = search needs
@@ -24,7 +24,7 @@ same-length c = search needs
 
 returns : tie.Need-returns
 returns c = let b = c .before .before .before .before .before .before .before in
-    rw (← b .before .returns-past .ensures, b .if1 .taken, ← c .before .before .before .further .ensures)
+    rw (← b .before .unimp-behind .ensures, b .if1 .taken, ← c .before .before .before .further .ensures)
     (known-by (sym (grown-places _ _ (b .before .before .before .w .given .1))) (c .before .before .add-plain .ensures))
 
 enum-known-w-2 : tie.Need-enum-known-w-2
@@ -36,7 +36,7 @@ enum-known-w-3 c = search needs
 returns-2 : tie.Need-returns-2
 unfolding grow seen
 returns-2 c = let b = c .before .before .before in
-    rw (← c .before .returns-past .ensures, c .if1 .left) (still (sym (grown-places _ _ (b .w .given .1))) (ready-places (b .w .given .1) (b .before .before .before .before .pre)))
+    rw (← c .before .unimp-behind .ensures, c .if1 .left) (still (sym (grown-places _ _ (b .w .given .1))) (ready-places (b .w .given .1) (b .before .before .before .before .pre)))
 
 returns-3 : tie.Need-returns-3
 returns-3 c = ended-forbidden _ _ _ (sym (grown-forbidden _ _ (c .before .w2 .given .1)))
@@ -49,7 +49,7 @@ then-past-spec =
     tie.close
     (tie.spec
     enum-known-w
-    returns-past-requires
+    unimp-behind-requires
     further-requires
     add-plain-requires
     same-length
