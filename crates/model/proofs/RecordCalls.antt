@@ -1,17 +1,15 @@
 -- A call that returns a record has the place that its callee returns to.
 use Prim.Native.Nat.{ℕ, _+_, _*_, _/_, _%_, _^_, _<_}
 use native.Mathlib.Omega.{arith}
-use mathlib.Core.Path.{_≡_, refl, sym}
-use mathlib.Core.Bool.{Bool, true, _&&_}
-use mathlib.Core.List.{List, [], _∷_}
-use lib.Dec.{eqb}
+use mathlib.Core.Path.{_≡_}
+use mathlib.Core.Bool.{true}
 use borrow.Author.Tests.{eq-eqb, ne-eqb}
 use Rattle.numbers.specs.Number.{plus}
 use Rattle.words.specs.Reader.{bits, instructionOf, isUnimp}
 use Rattle.words.specs.declared.Instruction.{Instruction}
 use Rattle.words.specs.declared.Instruction.the-variants.{Call, Jmpl}
-use Rattle.model.specs.declared.Place.the-variants.{Pair, Held}
-use Rattle.model.specs.OldCore.{transferOf, target}
+use Rattle.model.specs.declared.Place.the-variants.{Pair}
+use Rattle.model.specs.OldCore.{transferOf}
 use Rattle.model.specs.Places.{plain, member, returnNames, names, namesAt, unimpIn, unimpBehind, followers, from-place}
 use Rattle.model.specs.RecordCalls.{Links, by-call, by-jmpl, RecordCalls}
 use Rattle.model.proofs.Members.{mem-here, mem-there}

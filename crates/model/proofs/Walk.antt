@@ -16,7 +16,7 @@ use Rattle.words.specs.Reader.{instructionOf}
 use Rattle.model.specs.declared.Place.{Place}
 use Rattle.model.specs.declared.Place.the-variants.{Pair, Held}
 use Rattle.model.specs.OldCore.{wordIn, Transfer, illegal, straight, trap, call, bicc, jmpl, transferOf, target}
-use Rattle.model.specs.Places.{plain, placeAt, member, Which, never, always, depends, whichOf, biccNames, returnNames, names, namesAt, followers, allowed, plains, Makes, from-entry, from-place}
+use Rattle.model.specs.Places.{placeAt, member, Which, never, always, depends, whichOf, biccNames, returnNames, names, namesAt, followers, allowed, plains, Makes, from-entry, from-place}
 use Rattle.model.specs.Walk.{Walked, table, refused, endless, grow, grown, tested, handle, walk, placesOf}
 use Rattle.model.proofs.Members.{mem-left, mem-last, AllIn, all-in-left, in-all, AllP, all-append, all-at, all-from, all-map, all-get}
 use Rattle.model.proofs.OldSide.{Aligned}
