@@ -18,13 +18,12 @@ static const char *const formulas[FORMULAS] = {
 
 static APART struct value sum(const char *text);
 
-/* The shorter factor's bits decide how many sums it takes. */
+/* By the bits of b, from the highest on. */
 static word product(word a, word b)
 {
     word total = 0;
-    for (; b; b >>= 1, a <<= 1)
-        if (b & 1)
-            total += a;
+    for (int i = 31; i >= 0; i--)
+        total = (total << 1) + (b >> i & 1 ? a : 0);
     return total;
 }
 
