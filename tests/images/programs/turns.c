@@ -63,7 +63,7 @@ static APART struct box around(struct box box, struct point p)
     return box;
 }
 
-/* Up and down the ramps in turn; on the deck it leaves the way that it came. */
+/* Up and down the ramps: each says which of the two comes next. */
 static struct way up(struct way way);
 
 static struct way down(struct way way)
