@@ -1,6 +1,6 @@
 -- Laws of the walk, and of the code's answers read with a table.
 use Rattle.numbers.proofs.Lists.{at-up, past-up, drop-up, drop-all-up}
-use Rattle.numbers.specs.Number.{numberAt, upTo, numbersOf}
+use Rattle.numbers.specs.Number.{plus, numberAt, upTo, numbersOf}
 use Rattle.numbers.specs.Choice.{pick}
 use Rattle.words.specs.Reader.{instructionOf}
 use Rattle.words.specs.Flow.{flowOf}
@@ -9,7 +9,7 @@ use Rattle.words.specs.declared.Flow.{Flow}
 use Rattle.model.specs.OldCore.{wordIn, transferOf}
 use Rattle.model.specs.declared.Place.{Place}
 use Rattle.model.specs.declared.Place.the-variants.{Pair, Held}
-use Rattle.model.specs.Places.{plain, placeAt, member, names, namesAt, unimpBehind, followers, mayBeHeld, mayBeHeldAt, allowed, plains}
+use Rattle.model.specs.Places.{plain, placeAt, member, returnNames, names, namesAt, unimpBehind, followers, mayBeHeld, mayBeHeldAt, allowed, plains}
 use Rattle.places.proofs.Rows.{length-places, places-put, at-place}
 use Rattle.places.proofs.Chains.{member-number}
 use Rattle.places.proofs.Flows.{by-flow, fetched-none, fetched-some}
@@ -140,6 +140,16 @@ grow-append cap ps (x ∷ xs) ys =
 pub known-append : (cap : ℕ) (ps xs ys : List Place) (w : Found) (u : List ℕ) {r : Found} {t h l : List ℕ} → seen w u ≡ grow cap ps xs
     → Known cap (grown (λ qs. grow cap qs ys) (seen w u)) r t h l → Known cap (grow cap ps (xs ++ ys)) r t h l
 known-append cap ps xs ys w u e k = known-by (grow-append cap ps xs ys) (rw e at k)
+
+-- what is known of a call's places: where control goes, then where it returns to
+pub known-returns : (cap : ℕ) (ps : List Place) (x : Place) (unimp : Bool) (p : ℕ) (w v : Found) (u s : List ℕ) {r : Found} {t h l h′ l′ : List ℕ}
+    → seen w u ≡ grow cap ps (x ∷ []) → Known cap (grown (λ qs. grow cap qs (plain (plus p 8) ∷ [])) (seen w u)) v s h′ l′
+    → Known cap (grown (λ qs. grow cap qs (pick unimp (plain (plus p 12) ∷ []) [])) (seen v s)) r t h l
+    → Known cap (grow cap ps (x ∷ returnNames unimp p)) r t h l
+unfolding returnNames
+known-returns cap ps x unimp p w v u s e k m =
+    known-append cap ps (x ∷ plain (plus p 8) ∷ []) (pick unimp (plain (plus p 12) ∷ []) []) v s
+    (known-append cap ps (x ∷ []) (plain (plus p 8) ∷ []) w u e k .reads) m
 
 -- what the flow of a word says of a place that has it
 names-flow : (i : Instruction) (unimp : Bool) (p n : ℕ) → names (transferred (flowOf i)) unimp p n ≡ names (transferOf i) unimp p n

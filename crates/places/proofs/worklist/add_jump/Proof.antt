@@ -1,6 +1,6 @@
-use Rattle.model.specs.Places.{returnNames, names}
+use Rattle.model.specs.Places.{names}
 use Rattle.places.specs.Control.{transferred}
-use Rattle.places.proofs.Walking.{known-append}
+use Rattle.places.proofs.Walking.{known-returns}
 use borrow.Author.Tests.{eq-eqb, ne-eqb}
 use borrow.Author.Needs.{needs}
 use Rattle.places.proofs.worklist.add_jump.Statement.{statement}
@@ -29,11 +29,12 @@ same-length-2 : tie.Need-same-length-2
 same-length-2 c = search needs
 
 returns-2 : tie.Need-returns-2
-unfolding names returnNames transferred
+unfolding names transferred
 returns-2 c = let b = c .before .before .before .before .before .before .before .before in
     let d = b .before .before .before .before .before in
     rw (ne-eqb _ _ (d .if1 .left))
-    (known-append _ _ _ _ _ _ (known-append _ _ _ _ _ _ (d .before .before .before .add-held .ensures .reads) (rw (b .before .further .ensures) at (b .then-plain .ensures)) .reads) (c .before .before .then-past .ensures))
+    (known-returns _ _ _ _ _ _ _ _ _ (d .before .before .before .add-held .ensures .reads) (rw (b .before .further .ensures) at (b .then-plain .ensures))
+    (c .before .before .then-past .ensures))
 
 pub add-jump-spec : {M : Type 1} → statement M
 add-jump-spec =

@@ -1,8 +1,8 @@
-use Rattle.model.specs.Places.{returnNames, names}
+use Rattle.model.specs.Places.{names}
 use Rattle.model.specs.Walk.{grow}
 use Rattle.places.specs.Control.{transferred}
 use Rattle.places.specs.Walk.{seen}
-use Rattle.places.proofs.Walking.{still, known-append}
+use Rattle.places.proofs.Walking.{still, known-returns}
 use mathlib.Core.Path.{refl}
 use borrow.Author.Needs.{needs}
 use Rattle.places.proofs.worklist.add_names.Statement.{statement}
@@ -72,11 +72,12 @@ same-length-2 : tie.Need-same-length-2
 same-length-2 c = search needs
 
 returns-4 : tie.Need-returns-4
-unfolding names returnNames transferred
+unfolding names transferred
 returns-4 c = let b = c .before .before .before .before .before .before .before .before in
     let d = b .before .before .before .before .before .before .before in
     rw (d .before .before .before .before .before .before .f .given .1, ← d .before .target .ensures)
-    (known-append _ _ _ _ _ _ (known-append _ _ _ _ _ _ (d .add-pair .ensures .reads) (rw (b .before .further .ensures) at (b .then-plain .ensures)) .reads) (c .before .before .then-past .ensures))
+    (known-returns _ _ _ _ _ _ _ _ _ (d .add-pair .ensures .reads) (rw (b .before .further .ensures) at (b .then-plain .ensures))
+    (c .before .before .then-past .ensures))
 
 same-length-3 : tie.Need-same-length-3
 same-length-3 c = search needs
