@@ -24,8 +24,8 @@ same-length c = search needs
 
 returns : tie.Need-returns
 returns c = let b = c .before .before .before .before .before .before .before in
-    rw (← b .before .unimp-behind .ensures, b .if1 .taken, ← c .before .before .before .further .ensures)
-    (known-by (sym (grown-places _ _ (b .before .before .before .w .given .1))) (c .before .before .add-plain .ensures))
+    rw (← b .before .unimp-behind .ensures, b .if1 .taken)
+    (known-by (sym (grown-places _ _ (b .before .before .before .w .given .1))) (rw (c .before .before .before .further .ensures) at (c .before .before .add-plain .ensures)))
 
 enum-known-w-2 : tie.Need-enum-known-w-2
 enum-known-w-2 c = search needs
