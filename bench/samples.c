@@ -66,6 +66,20 @@ static void make_branches(struct sample *s)
     s->records_length = (2 * places - 4) * RECORD_BYTES; /* a trap has one record, and stands in four places */
 }
 
+/* Calls of what stands four words ahead, up to a call out of the image: each with a slot, an unimp behind it and a word
+ * that goes on to the next call. A place for each word; that outside has one record, and so has each unimp. */
+static void make_calls(struct sample *s)
+{
+    uint32_t state = 4;
+    size_t places = s->words + 1;
+    for (size_t i = 0; i < SAMPLE_WORDS; i++) {
+        uint32_t word = straight_word(&state);
+        put_word(s->images + 4 * i, i % 4 == 0 ? call(4) : i % 4 == 2 ? drawn(&state) % 4096 : word);
+    }
+    s->places_length = places * PLACE_BYTES;
+    s->records_length = (2 * places - s->words / 4 - 1) * RECORD_BYTES;
+}
+
 /* One image: conditional branches to anywhere in it, with the annul bit or without: the slot places never end. */
 static void make_refused(struct sample *s)
 {
@@ -81,13 +95,14 @@ static void make_refused(struct sample *s)
 
 void make_sample(struct sample *sample, int number)
 {
-    static const char *const names[] = { "straight", "branches", "refused" };
+    static const char *const names[] = { "straight", "branches", "calls", "refused" };
     int kind = number / SIZES;
-    *sample = (struct sample){ .words = kind < 2 ? sizes[number % SIZES] : SAMPLE_WORDS };
+    *sample = (struct sample){ .words = kind < 3 ? sizes[number % SIZES] : SAMPLE_WORDS };
     snprintf(sample->name, sizeof sample->name, "%s_%zu", names[kind], sample->words);
     switch (kind) {
     case 0: make_straight(sample); break;
     case 1: make_branches(sample); break;
+    case 2: make_calls(sample); break;
     default: make_refused(sample);
     }
 }

@@ -7,7 +7,7 @@
 #include <stdint.h>
 
 enum {
-    SAMPLES = 13,
+    SAMPLES = 19,
     SAMPLE_WORDS = 4096, /* of all its images */
     PLACES_ROOM = 16 * 8193,
     RECORDS_ROOM = 12 * 16384
@@ -21,7 +21,8 @@ struct sample {
     size_t places_length, records_length; /* lent to each; both are filled, if the answer is 0 */
 };
 
-/* Six sizes of straight code, the same six of conditional branches, and branches refused at the 8,193rd place. */
+/* Six sizes of straight code, the same six of conditional branches and of calls that return records, and branches
+ * refused at the 8,193rd place. */
 void make_sample(struct sample *sample, int number);
 
 #endif

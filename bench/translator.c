@@ -1,4 +1,4 @@
-/* The translator of document 01 in plain C: the same rules, refusals and index as the library's. */
+/* The translator of documents 01 and 02 in plain C: the same rules, refusals and index as the library's. */
 #include "translator.h"
 
 #include <stdbool.h>
@@ -90,12 +90,17 @@ static inline bool lies_in(const struct image *image, uint32_t address)
     return (uint64_t)(uint32_t)(address - image->base) + 4 <= image->length;
 }
 
+static inline uint32_t word_in(const struct image *image, uint32_t address)
+{
+    return word_at(image->bytes + (uint32_t)(address - image->base));
+}
+
 /* The word at an address, if that lies in the image, and its class. */
 static inline enum class fetch(const struct image *image, uint32_t address, uint32_t *word)
 {
     if (!lies_in(image, address))
         return OUTSIDE;
-    *word = word_at(image->bytes + (uint32_t)(address - image->base));
+    *word = word_in(image, address);
     return class_of(*word);
 }
 
@@ -164,14 +169,30 @@ static inline bool add_branch(struct table *table, uint32_t word, uint32_t targe
     return add_plain(table, past) && add_pair(table, next, target);
 }
 
+/* Where the callee of a call that returns a record comes back past. */
+static inline bool unimp_at(const struct image *image, uint32_t address)
+{
+    uint32_t word;
+    if (!lies_in(image, address))
+        return false;
+    word = word_in(image, address);
+    return word >> 30 == FORMAT_BRANCH && op2(word) == OP2_UNIMP;
+}
+
+static inline bool add_returns(struct table *table, const struct image *image, uint32_t p)
+{
+    return add_plain(table, p + 8) && (!unimp_at(image, p + 8) || add_plain(table, p + 12));
+}
+
 /* Adds what follows the word of a plain or slot place; false where there is no room. */
-static inline bool add_followers(struct table *table, uint32_t p, uint32_t n, enum class class, uint32_t word)
+static inline bool add_followers(struct table *table, const struct image *image, uint32_t p, uint32_t n,
+                                 enum class class, uint32_t word)
 {
     switch (class) {
     case OUTSIDE: case ILLEGAL: return true;
-    case CALL: return add_pair(table, n, p + disp30(word)) && add_plain(table, p + 8);
+    case CALL: return add_pair(table, n, p + disp30(word)) && add_returns(table, image, p);
     case BICC: return add_branch(table, word, p + disp22(word), n);
-    case JMPL: return add(table, n, 0, PLACE_HELD) && (rd(word) == 0 || add_plain(table, p + 8));
+    case JMPL: return add(table, n, 0, PLACE_HELD) && (rd(word) == 0 || add_returns(table, image, p));
     case TICC: return cond(word) == COND_ALWAYS || add_plain(table, n);
     default: return add_plain(table, n);
     }
@@ -198,7 +219,7 @@ static struct pijorrel_answer walk(const struct image *image, const uint8_t *ent
         if (word_at(row + 8) == PLACE_HELD) {
             if (!may_be_held(class, word))
                 return answer(FORBIDDEN, p, 0);
-        } else if (!add_followers(table, p, word_at(row + 4), class, word)) {
+        } else if (!add_followers(table, image, p, word_at(row + 4), class, word)) {
             return answer(NO_ROOM, table->unplaced, 0);
         }
     }

@@ -4,7 +4,7 @@
 
 enum v8_format { FORMAT_BRANCH = 0, FORMAT_CALL = 1, FORMAT_ARITHMETIC = 2, FORMAT_MEMORY = 3 };
 
-enum v8_op2 { OP2_BICC = 2, OP2_SETHI = 4 };
+enum v8_op2 { OP2_UNIMP = 0, OP2_BICC = 2, OP2_SETHI = 4 };
 
 /* op3 of format 2. With bit 4 (0x10) set, the first ten set the flags. */
 enum v8_arithmetic {

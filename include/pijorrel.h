@@ -73,7 +73,9 @@ struct pijorrel_end pijorrel_old_run(const uint8_t *image, size_t image_length, 
  *
  * A place table has four numbers for each place, 16 bytes. A place's number is its position, counted from 0; in a
  * translation the entries come first, then what follows each place, place by place, and of what follows a conditional
- * branch the fall-through comes before the delay slot of the branch taken.
+ * branch the fall-through comes before the delay slot of the branch taken. A call, or a jmpl whose rd is not 0, is
+ * followed by its delay slot and by where it returns to, 8 further; and then, where an unimp stands there (bits 31, 30
+ * and 24 to 22 are 0), by the word behind that, to which a function returns that returns a record.
  *   0  address
  *   1  next: the address after it; 0 for a held place, where it is known only when run
  *   2  kind: 0 plain (next is address + 4), 1 slot (any other next), 2 held

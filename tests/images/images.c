@@ -1,8 +1,8 @@
 /* Images that Debian's gcc compiled for SPARC V8, stored with what QEMU recorded of them: each is translated and run by
  * both cores to its trap, by steps of count 1, and the trails that the bytes show are held to each other at every entry
- * and to QEMU's; then once more with larger counts. With something spoiled it shows that it can fail. Leaves with 0 if
- * all is equal, 1 if something differs (where all are spoiled: in all images), 2 if the file is not whole or has too
- * little. */
+ * and to QEMU's; then once more with larger counts. With something spoiled it shows that it can fail; without unimps
+ * behind calls it shows that those were needed. Leaves with 0 if all is equal, 1 if something differs (where all are
+ * spoiled: in all images), 2 if the file is not whole or has too little. */
 #include <stdio.h>
 #include <string.h>
 
@@ -11,15 +11,16 @@
 #include "runs.h"
 #include "stored.h"
 
-enum { LEAST_PROGRAMS = 6 };
+enum { LEAST_PROGRAMS = 6, LEAST_WITH_UNIMPS = 3 };
 
-/* What --spoil changes: a record that the run comes to, or one of QEMU's numbers. */
-enum spoiled { NOTHING, RECORD, PATH, DIGEST, REGISTER, DATA, RESULT, SPOILS };
+/* What --spoil changes: a record that the run comes to, or one of QEMU's numbers. The last is no spoiling: every unimp
+ * behind a call. */
+enum spoiled { NOTHING, RECORD, PATH, DIGEST, REGISTER, DATA, RESULT, SPOILS, UNIMPS };
 
 static const char *const spoil_names[SPOILS] = { "nothing", "record", "path", "digest", "register", "data", "result" };
 
 static struct {
-    unsigned long images, words, pairs, differ;
+    unsigned long images, words, pairs, differ, unimps;
     struct counts runs;
     bool there[MOST_PROGRAMS][LEVELS];
 } seen;
@@ -27,7 +28,7 @@ static struct {
 /* One bit of what is recorded, in the file's bytes. */
 static void spoil_recorded(const struct stored *image, enum spoiled spoiled, uint8_t *bytes)
 {
-    const uint8_t *const at[SPOILS] = { [PATH] = image->path + 4 * (image->run_count / 2) + 1,
+    const uint8_t *const at[UNIMPS + 1] = { [PATH] = image->path + 4 * (image->run_count / 2) + 1,
                                         [DIGEST] = image->last + REGISTERS_AND_FLAGS,
                                         [REGISTER] = image->last + 4 * 17 + 3,
                                         [DATA] = image->after + (image->area_length - image->image_length) / 2,
@@ -36,9 +37,14 @@ static void spoil_recorded(const struct stored *image, enum spoiled spoiled, uin
         bytes[at[spoiled] - bytes] ^= 1;
 }
 
+/* Images without a call that returns a record are passed over where those are asked for. */
 static void check(const struct stored *image, enum spoiled spoiled)
 {
-    const char *what = check_image(image, spoiled == RECORD, &seen.runs);
+    unsigned long unimps = seen.unimps;
+    const char *what = spoiled == UNIMPS ? check_without_unimps(image, &seen.unimps)
+                                         : check_image(image, spoiled == RECORD, &seen.runs);
+    if (spoiled == UNIMPS && seen.unimps == unimps)
+        return;
     seen.images++;
     seen.words += image->image_length / 4;
     seen.pairs += image->pairs;
@@ -83,6 +89,8 @@ static enum spoiled spoil_asked(int count, char **words)
 {
     if (count == 2)
         return NOTHING;
+    if (count == 3 && strcmp(words[1], "--without-unimps") == 0)
+        return UNIMPS;
     for (int k = 1; count == 4 && strcmp(words[1], "--spoil") == 0 && k < SPOILS; k++)
         if (strcmp(words[2], spoil_names[k]) == 0)
             return (enum spoiled)k;
@@ -98,18 +106,30 @@ static void print_seen(void)
            runs->old_steps, runs->new_steps, seen.differ);
 }
 
+/* Each must have ended with 6, and there must be enough of them. */
+static int print_without_unimps(void)
+{
+    printf("images: without the %lu unimps behind calls, %lu of %lu images of %d programs end with 6 where one returns\n",
+           seen.unimps, seen.images - seen.differ, seen.images, whole_programs());
+    if (seen.differ > 0)
+        return 1;
+    return whole_programs() >= LEAST_WITH_UNIMPS ? 0 : 2;
+}
+
 int main(int count, char **words)
 {
     static uint8_t bytes[LARGEST_FILE];
     enum spoiled spoiled = spoil_asked(count, words);
     if (spoiled == SPOILS) {
-        fprintf(stderr, "usage: images [--spoil record|path|digest|register|data|result] FILE\n");
+        fprintf(stderr, "usage: images [--spoil record|path|digest|register|data|result | --without-unimps] FILE\n");
         return 2;
     }
     if (!check_file(bytes, read_file(words[count - 1], bytes), spoiled)) {
         fprintf(stderr, "%s is not a whole file of images\n", words[count - 1]);
         return 2;
     }
+    if (spoiled == UNIMPS)
+        return print_without_unimps();
     if (spoiled)
         printf("images: of %lu images with one bit of the %s spoiled, %lu show it\n", seen.images, spoil_names[spoiled],
                seen.differ);

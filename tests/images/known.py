@@ -143,7 +143,44 @@ def bays():
             + [ord(sign) for sign in signs] + [refused, unknown, shown])
 
 
-PROGRAMS = {maker.__name__: maker for maker in (sort, search, functions, choose, recursion, text, checksum, bays)}
+def stays():
+    """All in minutes."""
+    def stay(minutes):
+        return [minutes // 1440, minutes // 60 % 24, minutes % 60]
+    each = [number & 4095 for number in take(drawn(161803398), 12)]
+    total, longest = sum(each), max(each)
+    return (stay(total) + stay(longest) + stay((each[0] + each[1]) // 2 + (each[2] + each[3]) // 2)
+            + stay(max(longest // 2, each[4], total // 2 // 2)) + [total // 12, total % 12])
+
+
+def turns():
+    """Points as complex numbers; along is the imaginary part."""
+    table = [lambda p, by: p + by * 1j, lambda p, by: p - by, lambda p, by: p * 1j if by & 1 else p / 1j,
+             lambda p, by: -p.conjugate() if by & 1 else p.conjugate()]
+    ways = [0j]
+    for number in take(drawn(271828182), 40):
+        ways.append(table[number & 3](ways[-1], number >> 2 & 31))
+    low = complex(min(p.real for p in ways), min(p.imag for p in ways))
+    high = complex(max(p.real for p in ways), max(p.imag for p in ways))
+    at, left, up = 100 - 100j, 20, True
+    while left > 0:
+        at += left * 1j if up else -2 * left - 1
+        up, left = (left & 4 != 0, left - 1) if up else (True, left - 2)
+    points = [ways[-1], low, high, *(by(by(high, 5 + i), 6 + i) for i, by in enumerate(table)), at]
+    return [int(part) for p in points for part in (p.real, p.imag)]
+
+
+def formula():
+    formulas = ["7", "1+2*3", "(1+2)*3", "-5-(2-9)", "2*3*5*7*11*13", "1-(2-(3-4))", "65536*65536-1",
+                "(7-10)*(7-10)*-1", "12*(34+56)-78*(9+1)", "4294967295+2"]
+    lengths = 0
+    for letters in formulas:
+        lengths = (lengths << 3 & MASK | lengths >> 29) + len(letters) & MASK
+    return [eval(letters) for letters in formulas] + [lengths, 20460 - 60]
+
+
+PROGRAMS = {maker.__name__: maker
+            for maker in (sort, search, functions, choose, recursion, text, checksum, bays, stays, turns, formula)}
 
 
 def known(name):

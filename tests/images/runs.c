@@ -6,7 +6,8 @@
 #include "pijorrel.h"
 
 enum { PLACES = 8192, RECORDS = 2 * PLACES, MOST_STEPS = 1 << 20, NO_GROUP = -1, TRAP_TAKEN = 1 };
-enum { PC = 33, ANNUL = 35, RECORD_NUMBER = 33 };
+enum { PC = 33, ANNUL = 35, RECORD_NUMBER = 33, UNPLACED = 6 };
+enum { OP2_BIT = 1 << 22 };
 
 /* A run of one core; the state has room for either. */
 struct run {
@@ -229,6 +230,60 @@ static void spoil_record(const struct stored *image)
 {
     uint8_t *record = records + 12 * (size_t)word_at(places + 16 * place_in_middle(image) + 12);
     put_word(record + 4, word_at(record + 4) ^ 1);
+}
+
+/* ---- no unimps */
+
+/* A call, or a jmpl with rd not 0. */
+static bool links(uint32_t word)
+{
+    return word >> 30 == 1 || (word >> 30 == 2 && (word >> 19 & 63) == 0x38 && (word >> 25 & 31) != 0);
+}
+
+static bool is_unimp(uint32_t word)
+{
+    return word >> 30 == 0 && (word >> 22 & 7) == 0;
+}
+
+static unsigned long change_unimps(uint8_t *bytes, size_t length)
+{
+    unsigned long changed = 0;
+    for (size_t at = 0; at + 12 <= length; at += 4)
+        if (links(word_at(bytes + at)) && is_unimp(word_at(bytes + at + 8))) {
+            put_word(bytes + at + 8, word_at(bytes + at + 8) | OP2_BIT);
+            changed++;
+        }
+    return changed;
+}
+
+/* Whether the new core ended with 6 where the old one stands and QEMU was next, right behind a changed word. */
+static bool lost_past_a_call(const struct stored *image, struct path *path)
+{
+    uint32_t address = number_in(&old, PC), at = address - image->base;
+    return new.end.end == UNPLACED && old.end.end == 0 && new.end.number == address && same_machine(image)
+        && on_path(image, path, address) && at >= 12 && links(word_at(image->image + at - 12))
+        && is_unimp(word_at(image->image + at - 4) ^ OP2_BIT);
+}
+
+const char *check_without_unimps(const struct stored *image, unsigned long *changed)
+{
+    static uint8_t bytes[LONGEST_AREA];
+    struct stored without = *image;
+    struct path path = { 0 };
+    const char *what;
+    unsigned long count;
+    memcpy(bytes, image->image, image->image_length);
+    count = change_unimps(bytes, image->image_length);
+    *changed += count;
+    if (count == 0)
+        return NULL;
+    without.image = bytes;
+    if (!translated(&without))
+        return "refused by the translator";
+    begin_old(&without, &old);
+    begin_new(&without, &new);
+    what = differ_on_the_way(&without, &path);
+    return what ? what : lost_past_a_call(&without, &path) ? NULL : "no end 6 where a call returns past the word";
 }
 
 /* ---- all of it */

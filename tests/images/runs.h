@@ -12,4 +12,9 @@ struct counts {
 /* What differs, or NULL. If asked, one bit of a record in the middle of the run is spoiled before it. */
 const char *check_image(const struct stored *image, bool spoil, struct counts *counts);
 
+/* The image with bit 22 set in each word behind the delay slot of a call that returns a record, so that it is no unimp
+ * any more; nothing reads it. The new core must come as far as the first return past one, and end there with 6. What
+ * differs, or NULL; how many words were changed is added up. */
+const char *check_without_unimps(const struct stored *image, unsigned long *changed);
+
 #endif

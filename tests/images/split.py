@@ -4,6 +4,7 @@ import re
 PAIR = re.compile(r"\t( ?)(ldd|std)\t(?:\[(%\w+)([+-]\d+)?\], (%\w+)|(%\w+), \[(%\w+)([+-]\d+)?\])$")
 ANY_PAIR = re.compile(r"\t ?(ldd|std)\b")
 ANNULLING = re.compile(r"\t(b\w+,a)\t(\.\w+)$")
+BRANCH = re.compile(r"\tb\w*\t\.\w+$")
 NAMES = [f"%{group}{number}" for group in "goli" for number in range(8)]
 OTHER_NAMES = {"%sp": "%o6", "%fp": "%i6"}
 
@@ -41,9 +42,13 @@ class Splitter:
             self.lines.append(line)
 
     def take_pair(self, line, in_slot, first, second):
-        """In a slot that may be annulled one word stays, and the branch goes by the other one to its target."""
+        """In a slot that may be annulled one word stays, and the branch goes by the other one to its target; before
+        another slot one of the words goes before the branch, which asks for flags alone."""
         if not in_slot:
             self.lines += [f"\t{first}", f"\t{second}"]
+            return
+        if BRANCH.match(self.lines[-1]):
+            self.lines[-1:] = [f"\t{first}", self.lines[-1], f"\t {second}"]
             return
         branch, detour = ANNULLING.match(self.lines[-1]), f".Ldetour{self.count}"
         if not branch:

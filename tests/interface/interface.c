@@ -215,6 +215,29 @@ static void fall_through_first(void)
     CHECK(a.number == 5 && a.first == 8);
 }
 
+/* call 16; nop; unimp 12; ta 0; jmp %o7 + 12; nop: the function returns past the unimp, to plain 12, place 3. Where bit
+ * 22 of that word is set, nothing names 12. */
+static void call_returns_a_record(void)
+{
+    static const uint32_t image[] = { 0x40000004, 0x01000000, 12, 0x91D02000, 0x81C3E00C, 0x01000000 };
+    static const uint32_t places[] = { 0, 4, 0, 0, 4, 16, 1, 2, 8, 12, 0, 4, 12, 16, 0, 5, 16, 20, 0, 6, 20, 0, 2, 8 };
+    uint8_t bytes[24], entry[4] = { 0 }, table[96], list[120], by_hand[96];
+    for (int i = 0; i < 6; i++)
+        put_number(bytes, i, image[i]);
+    for (int i = 0; i < 24; i++)
+        put_number(by_hand, i, places[i]);
+    for (int without = 0; without < 2; without++) {
+        uint8_t state[PIJORREL_NEW_STATE] = { 0 };
+        put_number(bytes, 2, without ? 12 | 1u << 22 : 12);
+        struct pijorrel_answer a = pijorrel_translate(bytes, 24, 0, entry, 4, table, 96, list, 120);
+        CHECK(a.number == 0 && a.first == (without ? 5 : 6) && a.second == (without ? 9 : 10));
+        CHECK(without || memcmp(table, by_hand, 96) == 0);
+        pijorrel_new_begin(table, 16 * a.first, 0, 24, 0, state);
+        struct pijorrel_end e = pijorrel_new_run(list, 12 * a.second, table, 16 * a.first, 0, 24, 0, state, NULL, 0, 99);
+        CHECK(e.end == (without ? 6 : 1) && e.number == (without ? 12 : 0));
+    }
+}
+
 /* Refusal 3 names the first bad entry of a list, and a bad count is 0 whatever the entries are. */
 static void first_bad_entry(void)
 {
@@ -241,6 +264,7 @@ int main(void)
     listing_runs();
     translation_edges();
     fall_through_first();
+    call_returns_a_record();
     first_bad_entry();
     printf("%d of %d checks of the C interface hold\n", checks - failures, checks);
     return failures != 0;

@@ -2,12 +2,12 @@
 use Rattle.model.specs.Translation.{answerNumbers, badLength, badCount, badEntry, firstBad, placeRoom, filled, refusal, acceptance, fromWalk, translation}
 use Rattle.model.specs.Walk.{grow, grown, tested, handle, walk, placesOf}
 use Rattle.model.specs.Records.{numbersIn, rowAt, rowsIn, recordOf, recordAt, recordsIn, biccGroup, groupOf, heldGroupOf, groupAt, heldGroupAt, group, past, numbered, put, tableNumbers, recordNumbers, recordsNumbers, first, rowsFrom, recordsFrom, rowsOf, recordsOf}
-use Rattle.model.specs.Places.{kindOf, nextOf, placeAt, samePlace, member, whichOf, biccNames, names, namesAt, followers, idleBicc, mayBeHeld, mayBeHeldAt, allowed, plains}
+use Rattle.model.specs.Places.{kindOf, nextOf, placeAt, samePlace, member, whichOf, biccNames, returnNames, names, namesAt, unimpIn, unimpBehind, followers, idleBicc, mayBeHeld, mayBeHeldAt, allowed, plains}
 use Rattle.numbers.specs.Number.{plus, minus, signed, numberAt, bytesOf, numbersOf, upTo}
-use Rattle.words.specs.Reader.{bits, bitSet, operandOf, format0Of, format2Of, format3Of, byFormat, instructionOf}
+use Rattle.words.specs.Reader.{bits, bitSet, operandOf, format0Of, format2Of, format3Of, byFormat, instructionOf, isUnimp}
 use Rattle.words.specs.Conditions.{rows, bitAt, holdsOf, bitOf, nzvcOf}
 use Rattle.machine.proofs.Opened.{machine-open}
-use Rattle.model.specs.Cases.{over, start, shown, endOf, ended, newEnded, stepAt, cases, noCase, Row, bytesBack, given, answered, listed, entriesTold, told, begins, oldTold, newTold}
+use Rattle.model.specs.Cases.{over, start, shown, endOf, ended, newEnded, stepAt, cases, noCase, Row, bytesBack, given, answered, listedAt, listed, entriesTold, told, begins, oldTold, newTold}
 use Rattle.model.specs.Cores.{shownOf, oldMark, oldShown, naming, newMark, newShown, goesBy, newByHeld, newTrailAt}
 use Rattle.model.specs.NewCore.{following, fit, doesWord, holds, chooses, seek, lost, goes, stops, does, newNext, begunAt, newBegun}
 use Rattle.model.specs.Run.{step, run, zeroed}
@@ -54,7 +54,7 @@ each-row (r ∷ rs) e (suc i) h = each-row rs (both (sameList (r .got) (r .want)
 -- ---------------------------------------------------------------- the definitions, opened layer by layer
 -- numbers, and the words that they read as
 words-open : Unit {0}
-unfolding plus minus signed numberAt bytesOf numbersOf upTo bits bitSet operandOf format0Of format2Of format3Of byFormat instructionOf rows bitAt holdsOf bitOf nzvcOf
+unfolding plus minus signed numberAt bytesOf numbersOf upTo bits bitSet operandOf format0Of format2Of format3Of byFormat instructionOf isUnimp rows bitAt holdsOf bitOf nzvcOf
 words-open = tt
 
 -- the old core
@@ -64,7 +64,7 @@ old-open = tt
 
 -- places, and the walk that finds them
 places-open : Unit {0}
-unfolding kindOf nextOf placeAt samePlace member whichOf biccNames names namesAt followers idleBicc mayBeHeld mayBeHeldAt allowed plains grow grown tested handle walk placesOf
+unfolding kindOf nextOf placeAt samePlace member whichOf biccNames returnNames names namesAt unimpIn unimpBehind followers idleBicc mayBeHeld mayBeHeldAt allowed plains grow grown tested handle walk placesOf
 places-open = tt
 
 -- records, and what is handed back
@@ -84,7 +84,7 @@ trails-open = tt
 
 -- what a row shows
 rows-open : Unit {0}
-unfolding cases newEnded stepAt bytesBack given answered listed endOf entriesTold told begins oldTold newTold over start shown ended
+unfolding cases newEnded stepAt bytesBack given answered listedAt listed endOf entriesTold told begins oldTold newTold over start shown ended
 rows-open = tt
 
 pub cases-hold : (i : ℕ) → i < length cases → getD cases i noCase .got ≡ getD cases i noCase .want

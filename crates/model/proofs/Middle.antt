@@ -117,9 +117,9 @@ module _ (image : List ℕ) (base db : ℕ) where
     ok-effect (go m′) e i = (i .0, ah)
     ok-effect (halt z) e i = e
 
-    ok-jump : (b : Bool) (t : ℕ) (m′ : Machine) (rest : List Place) → eqb (t % 4) 0 ≡ b → AllIn ps (Held n ∷ rest) → OutOk ps (jumpOut b t m′ n)
-    ok-jump true t m′ rest e i = (i .0, eqb-true (t % 4) 0 e)
-    ok-jump false t m′ rest e i = omega arith
+    ok-jump : (b : Bool) (t : ℕ) (m′ : Machine) → eqb (t % 4) 0 ≡ b → member ps (Held n) ≡ true → OutOk ps (jumpOut b t m′ n)
+    ok-jump true t m′ e i = (i, eqb-true (t % 4) 0 e)
+    ok-jump false t m′ e i = omega arith
 
     -- wherever among the names the place stands
     ok-branch : (b annul : Bool) (t : ℕ) → AllIn ps (biccNames depends annul t n) → OutOk ps (branchOut b annul t n h m)
@@ -141,21 +141,20 @@ module _ (image : List ℕ) (base db : ℕ) where
     ok-trap : (i : Instruction) → transferOf i ≡ trap → RunEnd (trapEnd i m)
     ok-trap i q = rw (trap-halts db i m q) at (effects-end db i m)
 
-    ok-do : (t : Transfer) (i : Instruction) → transferOf i ≡ t → AllIn ps (names t p n) → OutOk ps (doOut t i p n h m)
+    ok-do : (t : Transfer) (unimp : Bool) (i : Instruction) → transferOf i ≡ t → AllIn ps (names t unimp p n) → OutOk ps (doOut t i p n h m)
     unfolding names
-    ok-do illegal i q a = omega arith
-    ok-do straight i q a = ok-effect (effectOf db i m) (effects-end db i m) a
-    ok-do trap i q a = ok-trap i q
-    ok-do (call disp) i q a = search a
-    ok-do (bicc cond annul disp) i q a = ok-bicc (whichOf cond) cond annul (target p disp) a
-    ok-do (jmpl rd rs1 x) i q a =
-        ok-jump (eqb (addressOf (m .registers) rs1 x % 4) 0) (addressOf (m .registers) rs1 x) (linked m rd p)
-        (pick (eqb rd 0) [] (plain (plus p 8) ∷ [])) refl a
+    ok-do illegal unimp i q a = omega arith
+    ok-do straight unimp i q a = ok-effect (effectOf db i m) (effects-end db i m) a
+    ok-do trap unimp i q a = ok-trap i q
+    ok-do (call disp) unimp i q a = search a
+    ok-do (bicc cond annul disp) unimp i q a = ok-bicc (whichOf cond) cond annul (target p disp) a
+    ok-do (jmpl rd rs1 x) unimp i q a =
+        ok-jump (eqb (addressOf (m .registers) rs1 x % 4) 0) (addressOf (m .registers) rs1 x) (linked m rd p) refl (search a)
 
-    ok-at : (o : Option ℕ) → AllIn ps (namesAt o p n) → OutOk ps (outAt o p n h m)
+    ok-at : (o : Option ℕ) (unimp : Bool) → AllIn ps (namesAt o unimp p n) → OutOk ps (outAt o p n h m)
     unfolding namesAt
-    ok-at none a = omega arith
-    ok-at (some word) a = ok-do (transferOf (instructionOf word)) (instructionOf word) refl a
+    ok-at none unimp a = omega arith
+    ok-at (some word) unimp a = ok-do (transferOf (instructionOf word)) unimp (instructionOf word) refl a
 
     ok-held-effect : (x : Next Machine) → EndsWell x → OutOk ps (heldOut x h)
     ok-held-effect (go m′) e = ah
@@ -178,5 +177,5 @@ module _ (image : List ℕ) (base db : ℕ) where
   pub out-ok : (ps : List Place) (pl : Place) (h : ℕ) (m : Machine) → h % 4 ≡ 0 → allowed image base pl ≡ true → AllIn ps (followers image base pl)
       → OutOk ps (out pl h m)
   unfolding allowed followers
-  out-ok ps (Pair p n) h m ah ok i = ok-at ps p n h m ah (wordIn image base p) i
+  out-ok ps (Pair p n) h m ah ok i = ok-at ps p n h m ah (wordIn image base p) _ i
   out-ok ps (Held p) h m ah ok i = ok-held-at ps p p h m ah (wordIn image base p) ok

@@ -16,7 +16,7 @@ use Rattle.words.specs.Reader.{instructionOf}
 use Rattle.model.specs.declared.Place.{Place}
 use Rattle.model.specs.declared.Place.the-variants.{Pair, Held}
 use Rattle.model.specs.OldCore.{wordIn, Transfer, illegal, straight, trap, call, bicc, jmpl, transferOf, target}
-use Rattle.model.specs.Places.{plain, placeAt, member, Which, never, always, depends, whichOf, biccNames, names, namesAt, followers, allowed, plains, Makes, from-entry, from-place}
+use Rattle.model.specs.Places.{placeAt, member, Which, never, always, depends, whichOf, biccNames, returnNames, names, namesAt, followers, allowed, plains, Makes, from-entry, from-place}
 use Rattle.model.specs.Walk.{Walked, table, refused, endless, grow, grown, tested, handle, walk, placesOf}
 use Rattle.model.proofs.Members.{mem-left, mem-last, AllIn, all-in-left, in-all, AllP, all-append, all-at, all-from, all-map, all-get}
 use Rattle.model.proofs.OldSide.{Aligned}
@@ -84,24 +84,30 @@ bicc-aligned always true t n a b c d = omega arith
 bicc-aligned depends false t n a b c d = omega arith
 bicc-aligned depends true t n a b c d = omega arith
 
-names-aligned : (t : Transfer) (p n : ℕ) → Aligned (Pair p n) → AllP Aligned (names t p n)
-unfolding names target plus
-names-aligned illegal p n a = tt
-names-aligned straight p n a = omega arith
-names-aligned trap p n a = tt
-names-aligned (call disp) p n a = omega arith
-names-aligned (bicc cond annul disp) p n a = bicc-aligned (whichOf cond) annul ((p + 4 * disp) % 2 ^ 32) n (omega arith) (omega arith) (a .1) (a .3)
-names-aligned (jmpl rd rs1 x) p n a =
-    (omega arith, either (AllP Aligned) (eqb rd 0) [] (plain ((p + 8) % 2 ^ 32) ∷ []) tt (omega arith))
+returns-aligned : (unimp : Bool) (p : ℕ) → p % 4 ≡ 0 → AllP Aligned (returnNames unimp p)
+unfolding returnNames plus
+returns-aligned true p a = omega arith
+returns-aligned false p a = omega arith
 
-names-at-aligned : (o : Option ℕ) (p n : ℕ) → Aligned (Pair p n) → AllP Aligned (namesAt o p n)
+names-aligned : (t : Transfer) (unimp : Bool) (p n : ℕ) → Aligned (Pair p n) → AllP Aligned (names t unimp p n)
+unfolding names target plus
+names-aligned illegal unimp p n a = tt
+names-aligned straight unimp p n a = omega arith
+names-aligned trap unimp p n a = tt
+names-aligned (call disp) unimp p n a = (omega arith, returns-aligned unimp p (a .0))
+names-aligned (bicc cond annul disp) unimp p n a =
+    bicc-aligned (whichOf cond) annul ((p + 4 * disp) % 2 ^ 32) n (omega arith) (omega arith) (a .1) (a .3)
+names-aligned (jmpl rd rs1 x) unimp p n a =
+    (omega arith, either (AllP Aligned) (eqb rd 0) [] (returnNames unimp p) tt (returns-aligned unimp p (a .0)))
+
+names-at-aligned : (o : Option ℕ) (unimp : Bool) (p n : ℕ) → Aligned (Pair p n) → AllP Aligned (namesAt o unimp p n)
 unfolding namesAt
-names-at-aligned none p n a = tt
-names-at-aligned (some word) p n a = names-aligned (transferOf (instructionOf word)) p n a
+names-at-aligned none unimp p n a = tt
+names-at-aligned (some word) unimp p n a = names-aligned (transferOf (instructionOf word)) unimp p n a
 
 followers-aligned : (image : List ℕ) (base : ℕ) (x : Place) → Aligned x → AllP Aligned (followers image base x)
 unfolding followers
-followers-aligned image base (Pair p n) a = names-at-aligned (wordIn image base p) p n a
+followers-aligned image base (Pair p n) a = names-at-aligned (wordIn image base p) _ p n a
 followers-aligned image base (Held p) a = tt
 
 -- ---------------------------------------------------------------- places by their number

@@ -58,11 +58,14 @@ given words entries placesLength recordsLength = translation (bytesOf words) 0 (
 unfoldable pub answered : List ℕ → ℕ → ℕ → List ℕ
 answered words placesLength recordsLength = answerNumbers (given words (0 ∷ []) placesLength recordsLength .answer)
 
--- the answer's numbers, then those of both buffers, which have room for just so many places and records
-unfoldable pub listed : ℕ → ℕ → List ℕ → List ℕ
-listed p r words =
-    let handed = given words (0 ∷ []) (16 * p) (12 * r) in
+-- for the image's first address: the answer's numbers, then those of both buffers, which have room for just so many places and records
+unfoldable pub listedAt : ℕ → ℕ → ℕ → List ℕ → List ℕ
+listedAt base p r words =
+    let handed = translation (bytesOf words) base (bytesOf (base ∷ [])) (16 * p) (12 * r) in
     answerNumbers (handed .answer) ++ numbersIn (handed .places) ++ numbersIn (handed .records)
+
+unfoldable pub listed : ℕ → ℕ → List ℕ → List ℕ
+listed p r words = listedAt 0 p r words
 
 -- ---------------------------------------------------------------- trails
 -- of each entry: the steps that lead to it, its address and what it shows of register 1
@@ -154,6 +157,22 @@ forks branch = branch ∷ 0x82006001 ∷ 0x91D02001 ∷ 0x91D02000 ∷ []
 -- be 16; nop; a jmpl that holds ba; another one
 abbrev pub twoForbidden : List ℕ
 twoForbidden = 0x02800004 ∷ nop ∷ 0x81C3E008 ∷ 0x10800003 ∷ 0x81C3E008 ∷ 0x10800003 ∷ []
+
+-- a call 16 further, or a jmpl; nop; what stands at p + 8; ta 0; ta 1
+abbrev pub recordCall : ℕ → ℕ → List ℕ
+recordCall word after = word ∷ nop ∷ after ∷ 0x91D02000 ∷ 0x91D02001 ∷ []
+
+-- call 16; nop; unimp 12; ta 0; jmpl %o7 + 12, as a function returns a record; nop
+abbrev pub returnsPast : List ℕ
+returnsPast = 0x40000004 ∷ nop ∷ 12 ∷ 0x91D02000 ∷ 0x81C3E00C ∷ nop ∷ []
+
+-- ba 24; a word in its delay slot; what stands at p + 8 = 12; ta 1 at 16, ta 0 at 20, nop at 24; what stands at n + 8 = 32; ta 2 at 36
+abbrev pub slottedRecord : ℕ → ℕ → ℕ → List ℕ
+slottedRecord word after far = 0x10800006 ∷ word ∷ nop ∷ after ∷ 0x91D02001 ∷ 0x91D02000 ∷ nop ∷ nop ∷ far ∷ 0x91D02002 ∷ []
+
+-- call 24; nop; what stands at p + 8; a jmpl that holds ba; nop; ta 0
+abbrev pub forbiddenPast : ℕ → List ℕ
+forbiddenPast after = 0x40000006 ∷ nop ∷ after ∷ 0x81C3E008 ∷ 0x10800003 ∷ nop ∷ 0x91D02000 ∷ []
 
 abbrev row : ℕ → List ℕ → List ℕ → Row
 row p got want = record { case = p; got = got; want = want }
@@ -292,6 +311,61 @@ cases =
     ∷ row 0 (answered twoForbidden 8192 12288) (4 ∷ 12 ∷ 0 ∷ [])
     ∷ row 0 (answered (forks 0x02800003) 48 12288) (5 ∷ 8 ∷ 0 ∷ [])
     ∷ row 0 (answered (forks 0x22800003) 16 12288) (5 ∷ 8 ∷ 0 ∷ [])
+    -- 02, N1: "Where a call, or a jmpl with rd not 0, stands at p .. the place at p names plain p + 12 right after plain p + 8"
+    ∷ row 0 (listed 5 7 (recordCall 0x40000004 12))
+    (0 ∷ 5 ∷ 7
+    ∷ 0 ∷ 4 ∷ 0 ∷ 0 ∷ 4 ∷ 16 ∷ 1 ∷ 2 ∷ 8 ∷ 12 ∷ 0 ∷ 4 ∷ 12 ∷ 16 ∷ 0 ∷ 5 ∷ 16 ∷ 20 ∷ 0 ∷ 6
+    ∷ 2 ∷ 0 ∷ 0 ∷ 5 ∷ 2 ∷ 0 ∷ 1 ∷ 0x01000000 ∷ 0 ∷ 5 ∷ 6 ∷ 0 ∷ 7 ∷ 3 ∷ 8 ∷ 1 ∷ 0x91D02000 ∷ 0 ∷ 1 ∷ 0x91D02001 ∷ 0
+    ∷ [])
+    ∷ row 0 (listed 4 6 (recordCall 0x83C06000 12))
+    (0 ∷ 4 ∷ 6
+    ∷ 0 ∷ 4 ∷ 0 ∷ 0 ∷ 4 ∷ 0 ∷ 2 ∷ 2 ∷ 8 ∷ 12 ∷ 0 ∷ 4 ∷ 12 ∷ 16 ∷ 0 ∷ 5
+    ∷ 3 ∷ 0x83C06000 ∷ 0 ∷ 5 ∷ 2 ∷ 0 ∷ 1 ∷ 0x01000000 ∷ 0 ∷ 6 ∷ 0 ∷ 0 ∷ 7 ∷ 3 ∷ 8 ∷ 1 ∷ 0x91D02000 ∷ 0
+    ∷ [])
+    ∷ row 0 (answered (recordCall 0x81C06000 12) 8192 12288) (0 ∷ 2 ∷ 4 ∷ [])
+    -- "with bits 31, 30 and 24 to 22 all 0": with room for three places the fourth is refused, at 12; with one of the five bits set at 16
+    ∷ row 0 (answered (recordCall 0x40000004 0x3E3FFFFF) 48 12288) (5 ∷ 12 ∷ 0 ∷ [])
+    ∷ row 0 (answered (recordCall 0x40000004 0x00400000) 48 12288) (5 ∷ 16 ∷ 0 ∷ [])
+    ∷ row 0 (answered (recordCall 0x40000004 0x00800000) 48 12288) (5 ∷ 16 ∷ 0 ∷ [])
+    ∷ row 0 (answered (recordCall 0x40000004 0x01000000) 48 12288) (5 ∷ 16 ∷ 0 ∷ [])
+    ∷ row 0 (answered (recordCall 0x40000004 0x40000000) 48 12288) (5 ∷ 16 ∷ 0 ∷ [])
+    ∷ row 0 (answered (recordCall 0x40000004 0x80000000) 48 12288) (5 ∷ 16 ∷ 0 ∷ [])
+    -- "the place at p", also in a delay slot, from (4, 24): p + 8 is 12, p + 12 is 16; an unimp at n + 8 = 32 says nothing
+    ∷ row 0 (listed 6 8 (slottedRecord 0x40000004 12 nop))
+    (0 ∷ 6 ∷ 8
+    ∷ 0 ∷ 4 ∷ 0 ∷ 0 ∷ 4 ∷ 24 ∷ 1 ∷ 1 ∷ 24 ∷ 20 ∷ 1 ∷ 3 ∷ 12 ∷ 16 ∷ 0 ∷ 5 ∷ 16 ∷ 20 ∷ 0 ∷ 6 ∷ 20 ∷ 24 ∷ 0 ∷ 7
+    ∷ 5 ∷ 1 ∷ 0 ∷ 2 ∷ 4 ∷ 0 ∷ 5 ∷ 3 ∷ 0 ∷ 1 ∷ 0x01000000 ∷ 0 ∷ 5 ∷ 7 ∷ 0 ∷ 7 ∷ 3 ∷ 12 ∷ 1 ∷ 0x91D02001 ∷ 0 ∷ 1 ∷ 0x91D02000 ∷ 0
+    ∷ [])
+    ∷ row 0 (listed 5 7 (slottedRecord 0x83C06000 12 nop))
+    (0 ∷ 5 ∷ 7
+    ∷ 0 ∷ 4 ∷ 0 ∷ 0 ∷ 4 ∷ 24 ∷ 1 ∷ 1 ∷ 24 ∷ 0 ∷ 2 ∷ 3 ∷ 12 ∷ 16 ∷ 0 ∷ 5 ∷ 16 ∷ 20 ∷ 0 ∷ 6
+    ∷ 5 ∷ 1 ∷ 0 ∷ 3 ∷ 0x83C06000 ∷ 4 ∷ 5 ∷ 3 ∷ 0 ∷ 1 ∷ 0x01000000 ∷ 0 ∷ 6 ∷ 0 ∷ 0 ∷ 7 ∷ 3 ∷ 12 ∷ 1 ∷ 0x91D02001 ∷ 0
+    ∷ [])
+    ∷ row 0 (answered (slottedRecord 0x40000004 0x91D02003 12) 8192 12288) (0 ∷ 5 ∷ 7 ∷ [])
+    -- sums modulo 2^32: p + 8 at 0 and p + 12 at 4; p + 8 at 2^32 - 4 and p + 12 at 0
+    ∷ row 0 (listedAt 0xFFFFFFF8 4 6 (recordCall 0x83C06000 12))
+    (0 ∷ 4 ∷ 6
+    ∷ 0xFFFFFFF8 ∷ 0xFFFFFFFC ∷ 0 ∷ 0 ∷ 0xFFFFFFFC ∷ 0 ∷ 2 ∷ 2 ∷ 0 ∷ 4 ∷ 0 ∷ 4 ∷ 4 ∷ 8 ∷ 0 ∷ 5
+    ∷ 3 ∷ 0x83C06000 ∷ 0xFFFFFFF8 ∷ 5 ∷ 2 ∷ 0 ∷ 1 ∷ 0x01000000 ∷ 0 ∷ 6 ∷ 0 ∷ 0 ∷ 7 ∷ 3 ∷ 0 ∷ 1 ∷ 0x91D02000 ∷ 0
+    ∷ [])
+    ∷ row 0 (listedAt 0xFFFFFFF4 5 7 (recordCall 0x40000004 12))
+    (0 ∷ 5 ∷ 7
+    ∷ 0xFFFFFFF4 ∷ 0xFFFFFFF8 ∷ 0 ∷ 0 ∷ 0xFFFFFFF8 ∷ 4 ∷ 1 ∷ 2 ∷ 0xFFFFFFFC ∷ 0 ∷ 0 ∷ 4 ∷ 0 ∷ 4 ∷ 0 ∷ 5 ∷ 4 ∷ 8 ∷ 0 ∷ 6
+    ∷ 2 ∷ 0xFFFFFFF4 ∷ 0 ∷ 5 ∷ 2 ∷ 0 ∷ 1 ∷ 0x01000000 ∷ 0 ∷ 5 ∷ 6 ∷ 0 ∷ 7 ∷ 3 ∷ 0xFFFFFFFC ∷ 1 ∷ 0x91D02000 ∷ 0 ∷ 1 ∷ 0x91D02001 ∷ 0
+    ∷ [])
+    -- "the word at p + 8 is in the image": where it is the last one, p + 12 lies outside and has its place; where it is not, there is none
+    ∷ row 0 (listed 4 6 (0x83C06000 ∷ nop ∷ 12 ∷ []))
+    (0 ∷ 4 ∷ 6
+    ∷ 0 ∷ 4 ∷ 0 ∷ 0 ∷ 4 ∷ 0 ∷ 2 ∷ 2 ∷ 8 ∷ 12 ∷ 0 ∷ 4 ∷ 12 ∷ 16 ∷ 0 ∷ 5
+    ∷ 3 ∷ 0x83C06000 ∷ 0 ∷ 5 ∷ 2 ∷ 0 ∷ 1 ∷ 0x01000000 ∷ 0 ∷ 6 ∷ 0 ∷ 0 ∷ 7 ∷ 3 ∷ 8 ∷ 7 ∷ 2 ∷ 12
+    ∷ [])
+    ∷ row 0 (answered (0x40000004 ∷ nop ∷ []) 8192 12288) (0 ∷ 4 ∷ 6 ∷ [])
+    -- "the callee returns past it", on both cores, to the trap at 12
+    ∷ row 0 (oldTold returnsPast (begins 0 0 0) 9) (0 ∷ 0 ∷ 0 ∷ 1 ∷ 4 ∷ 0 ∷ 1 ∷ 16 ∷ 0 ∷ 1 ∷ 20 ∷ 0 ∷ 1 ∷ 12 ∷ 0 ∷ 1 ∷ 0 ∷ [])
+    ∷ row 0 (newTold 6 10 returnsPast (begins 0 0 0) 9) (0 ∷ 0 ∷ 0 ∷ 2 ∷ 4 ∷ 0 ∷ 2 ∷ 16 ∷ 0 ∷ 2 ∷ 20 ∷ 0 ∷ 2 ∷ 12 ∷ 0 ∷ 1 ∷ 0 ∷ [])
+    -- a refusal 4 that only p + 12 leads to
+    ∷ row 0 (answered (forbiddenPast 12) 8192 12288) (4 ∷ 16 ∷ 0 ∷ [])
+    ∷ row 0 (answered (forbiddenPast 0x00400000) 8192 12288) (0 ∷ 4 ∷ 6 ∷ [])
     ∷ []
 
 pub noCase : Row

@@ -3,6 +3,7 @@ pub mod OldCore
 pub mod Places
 pub mod Walk
 pub mod FallThroughFirst
+pub mod RecordCalls
 pub mod Records
 pub mod NewCore
 pub mod Translation

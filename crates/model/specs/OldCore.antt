@@ -30,9 +30,9 @@ wordIn image base p = pick (inImage base (length image) p) (some (numberAt image
 
 -- What a word does to control: nothing, or one of the ways that 01 tells apart. Three types speak of a word, since three readers want
 -- different parts of it. `Instruction` (words) is all of it, and what the cores execute. `Transfer` is what decides where control goes, with a
--- jmpl's operands, from which its address comes: the old core's step, places and records are functions of it alone, so that a word that does
--- not transfer touches none of them. `Flow` (words) is that without a jmpl's operands, which places and records never ask for (`by-flow`): the
--- translator's code reads no more of a word, for its speed.
+-- jmpl's operands, from which its address comes: the old core's step, places and records are functions of it (places also of whether an unimp
+-- stands behind a call), so that a word that does not transfer touches none of them. `Flow` (words) is that without a jmpl's operands, which
+-- places and records never ask for (`by-flow`): the translator's code reads no more of a word, for its speed.
 pub data Transfer : Type 0 where
   -- straight: none; trap: a Ticc 8, which is always taken
   illegal straight trap : Transfer

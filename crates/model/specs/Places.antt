@@ -7,7 +7,7 @@ use mathlib.Core.Option.{Option, none, some}
 use lib.Dec.{eqb}
 use Rattle.numbers.specs.Choice.{pick}
 use Rattle.numbers.specs.Number.{plus}
-use Rattle.words.specs.Reader.{instructionOf}
+use Rattle.words.specs.Reader.{instructionOf, isUnimp}
 use Rattle.model.specs.declared.Place.{Place}
 use Rattle.model.specs.declared.Place.the-variants.{Pair, Held}
 use Rattle.model.specs.OldCore.{wordIn, Transfer, illegal, straight, trap, call, bicc, jmpl, transferOf, target}
@@ -58,25 +58,38 @@ biccNames always true t n = plain t ∷ []
 biccNames depends false t n = plain n ∷ Pair n t ∷ []
 biccNames depends true t n = plain (plus n 4) ∷ Pair n t ∷ []
 
--- "Each names its followers, in the order given here", for a plain or slot place (p, n):
+-- where a call at p comes back to: "plain p + 8"; 02, N1, where an unimp stands there: "plain p + 12 right after plain p + 8"
+unfoldable pub returnNames : Bool → ℕ → List Place
+returnNames unimp p = plain (plus p 8) ∷ pick unimp (plain (plus p 12) ∷ []) []
+
+-- "Each names its followers, in the order given here", for a plain or slot place (p, n), from what its word does to control and whether an
+-- unimp stands at p + 8:
 -- "illegal word, Ticc 8: none"; "any other word that is not call, Bicc or jmpl: plain n";
 -- "call to t: (n, t), then plain p + 8"; "jmpl: held n, then plain p + 8 if rd is not 0"
-unfoldable pub names : Transfer → ℕ → ℕ → List Place
-names illegal p n = []
-names trap p n = []
-names straight p n = plain n ∷ []
-names (call disp) p n = Pair n (target p disp) ∷ plain (plus p 8) ∷ []
-names (bicc cond annul disp) p n = biccNames (whichOf cond) annul (target p disp) n
-names (jmpl rd rs1 x) p n = Held n ∷ pick (eqb rd 0) [] (plain (plus p 8) ∷ [])
+unfoldable pub names : Transfer → Bool → ℕ → ℕ → List Place
+names illegal unimp p n = []
+names trap unimp p n = []
+names straight unimp p n = plain n ∷ []
+names (call disp) unimp p n = Pair n (target p disp) ∷ returnNames unimp p
+names (bicc cond annul disp) unimp p n = biccNames (whichOf cond) annul (target p disp) n
+names (jmpl rd rs1 x) unimp p n = Held n ∷ pick (eqb rd 0) [] (returnNames unimp p)
 
 -- "p outside the image, .. none"
-unfoldable pub namesAt : Option ℕ → ℕ → ℕ → List Place
-namesAt none p n = []
-namesAt (some word) p n = names (transferOf (instructionOf word)) p n
+unfoldable pub namesAt : Option ℕ → Bool → ℕ → ℕ → List Place
+namesAt none unimp p n = []
+namesAt (some word) unimp p n = names (transferOf (instructionOf word)) unimp p n
+
+-- 02, N1: "the word at p + 8 is in the image with bits 31, 30 and 24 to 22 all 0", where a call stands at p
+unfoldable pub unimpIn : Option ℕ → Bool
+unimpIn none = false
+unimpIn (some word) = isUnimp word
+
+unfoldable pub unimpBehind : List ℕ → ℕ → ℕ → Bool
+unimpBehind image base p = unimpIn (wordIn image base (plus p 8))
 
 -- "A held place has no followers."
 unfoldable pub followers : List ℕ → ℕ → Place → List Place
-followers image base (Pair p n) = namesAt (wordIn image base p) p n
+followers image base (Pair p n) = namesAt (wordIn image base p) (unimpBehind image base p) p n
 followers image base (Held p) = []
 
 -- a Bicc 0 without annul

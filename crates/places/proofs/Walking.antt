@@ -1,6 +1,6 @@
 -- Laws of the walk, and of the code's answers read with a table.
 use Rattle.numbers.proofs.Lists.{at-up, past-up, drop-up, drop-all-up}
-use Rattle.numbers.specs.Number.{numberAt, upTo, numbersOf}
+use Rattle.numbers.specs.Number.{plus, numberAt, upTo, numbersOf}
 use Rattle.numbers.specs.Choice.{pick}
 use Rattle.words.specs.Reader.{instructionOf}
 use Rattle.words.specs.Flow.{flowOf}
@@ -9,7 +9,7 @@ use Rattle.words.specs.declared.Flow.{Flow}
 use Rattle.model.specs.OldCore.{wordIn, transferOf}
 use Rattle.model.specs.declared.Place.{Place}
 use Rattle.model.specs.declared.Place.the-variants.{Pair, Held}
-use Rattle.model.specs.Places.{plain, placeAt, member, names, namesAt, followers, mayBeHeld, mayBeHeldAt, allowed, plains}
+use Rattle.model.specs.Places.{plain, placeAt, member, returnNames, names, namesAt, unimpBehind, followers, mayBeHeld, mayBeHeldAt, allowed, plains}
 use Rattle.places.proofs.Rows.{length-places, places-put, at-place}
 use Rattle.places.proofs.Chains.{member-number}
 use Rattle.places.proofs.Flows.{by-flow, fetched-none, fetched-some}
@@ -122,26 +122,39 @@ module _ (image : List ℕ) (base : ℕ) where
   tested-grown rest cap ps x true = rw (grown-table (grow cap ps (followers image base x)))
 
 -- `grow` over a list is one `grow` after another
-pub grow-cons : (cap : ℕ) (ps : List Place) (x : Place) (xs : List Place)
-    → grown (λ qs. grow cap qs xs) (grow cap ps (x ∷ [])) ≡ grow cap ps (x ∷ xs)
+pub grow-append : (cap : ℕ) (ps xs ys : List Place) → grown (λ qs. grow cap qs ys) (grow cap ps xs) ≡ grow cap ps (xs ++ ys)
 unfolding grow grown
-grow-cons cap ps x xs = go (member ps x) (ltb (length ps) cap)
+grow-append cap ps [] ys = refl
+grow-append cap ps (x ∷ xs) ys =
+    go (member ps x) (ltb (length ps) cap) (grow-append cap ps xs ys) (grow-append cap (ps ++ (x ∷ [])) xs ys)
   where
-    go : (b t : Bool) → grown (λ qs. grow cap qs xs) (pick b (table ps) (pick t (table (ps ++ (x ∷ []))) (refused 5 (placeAt x))))
-        ≡ pick b (grow cap ps xs) (pick t (grow cap (ps ++ (x ∷ [])) xs) (refused 5 (placeAt x)))
-    go true t = refl
-    go false true = refl
-    go false false = refl
+    go : (b t : Bool) → grown (λ qs. grow cap qs ys) (grow cap ps xs) ≡ grow cap ps (xs ++ ys)
+        → grown (λ qs. grow cap qs ys) (grow cap (ps ++ (x ∷ [])) xs) ≡ grow cap (ps ++ (x ∷ [])) (xs ++ ys)
+        → grown (λ qs. grow cap qs ys) (pick b (grow cap ps xs) (pick t (grow cap (ps ++ (x ∷ [])) xs) (refused 5 (placeAt x))))
+        ≡ pick b (grow cap ps (xs ++ ys)) (pick t (grow cap (ps ++ (x ∷ [])) (xs ++ ys)) (refused 5 (placeAt x)))
+    go true t known added = known
+    go false true known added = added
+    go false false known added = refl
 
--- what is known of two places that were added, one after the other
-pub known-two : (cap : ℕ) (ps : List Place) (x y : Place) (w : Found) (u : List ℕ) {r : Found} {t h l : List ℕ} → seen w u ≡ grow cap ps (x ∷ [])
-    → Known cap (grown (λ qs. grow cap qs (y ∷ [])) (seen w u)) r t h l → Known cap (grow cap ps (x ∷ y ∷ [])) r t h l
-known-two cap ps x y w u e k = known-by (grow-cons cap ps x (y ∷ [])) (rw e at k)
+-- what is known of places that were added after others
+pub known-append : (cap : ℕ) (ps xs ys : List Place) (w : Found) (u : List ℕ) {r : Found} {t h l : List ℕ} → seen w u ≡ grow cap ps xs
+    → Known cap (grown (λ qs. grow cap qs ys) (seen w u)) r t h l → Known cap (grow cap ps (xs ++ ys)) r t h l
+known-append cap ps xs ys w u e k = known-by (grow-append cap ps xs ys) (rw e at k)
+
+-- what is known of a call's places: where control goes, then where it returns to
+pub known-returns : (cap : ℕ) (ps : List Place) (x : Place) (unimp : Bool) (p : ℕ) (w v : Found) (u s : List ℕ) {r : Found} {t h l h′ l′ : List ℕ}
+    → seen w u ≡ grow cap ps (x ∷ []) → Known cap (grown (λ qs. grow cap qs (plain (plus p 8) ∷ [])) (seen w u)) v s h′ l′
+    → Known cap (grown (λ qs. grow cap qs (pick unimp (plain (plus p 12) ∷ []) [])) (seen v s)) r t h l
+    → Known cap (grow cap ps (x ∷ returnNames unimp p)) r t h l
+unfolding returnNames
+known-returns cap ps x unimp p w v u s e k m =
+    known-append cap ps (x ∷ plain (plus p 8) ∷ []) (pick unimp (plain (plus p 12) ∷ []) []) v s
+    (known-append cap ps (x ∷ []) (plain (plus p 8) ∷ []) w u e k .reads) m
 
 -- what the flow of a word says of a place that has it
-names-flow : (i : Instruction) (p n : ℕ) → names (transferred (flowOf i)) p n ≡ names (transferOf i) p n
+names-flow : (i : Instruction) (unimp : Bool) (p n : ℕ) → names (transferred (flowOf i)) unimp p n ≡ names (transferOf i) unimp p n
 unfolding names
-names-flow i p n = by-flow (λ t. names t p n) (λ rd rs1 x. refl) i
+names-flow i unimp p n = by-flow (λ t. names t unimp p n) (λ rd rs1 x. refl) i
 
 held-flow : (i : Instruction) → mayBeHeld (transferred (flowOf i)) ≡ mayBeHeld (transferOf i)
 unfolding mayBeHeld
@@ -172,11 +185,12 @@ module _ (image : List ℕ) (base cap : ℕ) (ps : List Place) (p n k : ℕ) {f 
         go false = refl
 
     pub handled-pair : {held : Bool} → held ≡ eqb k 2 → held ≡ false
-        → grow cap ps (names (transferred v) p n) ≡ handled image base cap ps (placeOf p n k)
+        → grow cap ps (names (transferred v) (unimpBehind image base p) p n) ≡ handled image base cap ps (placeOf p n k)
     unfolding handled placeOf allowed followers namesAt tested
     handled-pair a b =
-        rw (← a, b, here, i, names-flow (instructionOf word) p n)
-        (sym (grown-table image base (grow cap ps (names (transferOf (instructionOf word)) p n))))
+        let unimp = unimpBehind image base p in
+        rw (← a, b, here, i, names-flow (instructionOf word) unimp p n)
+        (sym (grown-table image base (grow cap ps (names (transferOf (instructionOf word)) unimp p n))))
 
 -- what is known after a held place
 pub held-known : (p : ℕ) (b : Bool) {room n : ℕ} {w : Walked} {r : Found} {t h l : List ℕ} → r ≡ pick b (Places n) (Forbidden p) → seen r t ≡ w
@@ -214,7 +228,7 @@ pub start-turn : (l : List ℕ) (k j v : ℕ) (cap n : ℕ) (t t′ : List ℕ) 
 unfolding plains numbersOf
 start-turn l k j v cap n t t′ w h e s =
     rw (s, add-one j, drop-up (λ i. numberAt l (4 * i)) k j h, ← e)
-    (grow-cons cap (placesIn t n) (plain v) (plains (drop (suc j) (numbersOf l k))))
+    (grow-append cap (placesIn t n) (plain v ∷ []) (plains (drop (suc j) (numbersOf l k))))
 
 pub start-end : (l : List ℕ) (k j cap n : ℕ) (t : List ℕ) → k ≤ j → seen (Places n) t ≡ grow cap (placesIn t n) (plains (drop j (numbersOf l k)))
 unfolding plains numbersOf grow seen

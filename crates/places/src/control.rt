@@ -3,7 +3,7 @@ ghost use mathlib.Core.Path.{_≡_};
 ghost use Rattle.numbers.specs.Choice.{pick};
 ghost use Rattle.numbers.specs.Number.{plus};
 ghost use Rattle.model.specs.OldCore.{wordIn};
-ghost use Rattle.model.specs.Places.{mayBeHeld};
+ghost use Rattle.model.specs.Places.{unimpBehind, mayBeHeld};
 ghost use Rattle.places.specs.Control.{wordOf, transferred};
 use machine::SourcePc;
 use machine::further;
@@ -33,6 +33,17 @@ pub fn untaken(annul: bool, n: SourcePc) -> SourcePc
         return further(n, 4);
     }
     n
+}
+
+// Whether an unimp stands behind the delay slot of a call at p: there the callee returns a record, and past the unimp.
+pub fn unimp_behind(image: &[u8], base: u32, p: SourcePc) -> bool
+    ensures { λ r. ⌜ r ≡ unimpBehind (now (image .entry)) base (p .0) ⌝ }
+{
+    let f = fetch(image, base, further(p, 8));
+    match f {
+        Fetched::Word(word) => words::is_unimp(word),
+        Fetched::Outside => false,
+    }
 }
 
 // Whether a word may stand held: no call, no jmpl, and of the branches one that is never taken and annuls nothing.

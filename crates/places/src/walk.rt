@@ -57,7 +57,7 @@ fn handle(
                 return handle_held(count, flow, p);
             }
             let n = next(places, at);
-            add_names(places, heads, links, count, room, flow, p, n)
+            add_names(image, base, places, heads, links, count, room, flow, p, n)
         }
         Fetched::Outside => Found::Places(count),
     }

@@ -3,12 +3,15 @@ ghost use mathlib.Core.Path.{_≡_};
 ghost use mathlib.Core.List.{[], _∷_};
 ghost use Rattle.words.specs.declared.Flow.the-variants.{Jumps};
 ghost use Rattle.model.specs.declared.Place.the-variants.{Pair, Held};
-ghost use Rattle.model.specs.Places.{plain, whichOf, biccNames, names};
+ghost use Rattle.numbers.specs.Choice.{pick};
+ghost use Rattle.numbers.specs.Number.{plus};
+ghost use Rattle.model.specs.Places.{plain, whichOf, biccNames, unimpBehind, names};
 ghost use Rattle.model.specs.Walk.{grow, grown};
 ghost use Rattle.places.specs.Control.{transferred};
 ghost use Rattle.places.specs.Table.{placeOf, placesIn, Shows};
 ghost use Rattle.places.specs.Index.{Ready, ReadyBy, Known};
 ghost use Rattle.places.specs.Walk.{seen, counted};
+use crate::control::unimp_behind;
 use crate::control::untaken;
 use crate::index::enter;
 use crate::index::find;
@@ -168,8 +171,36 @@ fn add_branch(
     then_pair(places, heads, links, w, room, n, t)
 }
 
+// Adds, after the other followers of a call at p, plain p + 12 where an unimp stands at p + 8.
+fn then_past(
+    image: &[u8],
+    base: u32,
+    places: &mut [u8],
+    heads: &mut [u16; 8192],
+    links: &mut [u16; 8192],
+    w: Found,
+    room: usize,
+    p: SourcePc,
+) -> Found
+    requires { ⌜ ReadyBy room w (now places) (now heads) (now links) ⌝ }
+    ensures { λ r. ⌜ Known room (grown (λ ps. grow room ps (pick (unimpBehind (now (image .entry)) base (p .0)) (plain (plus (p .0) 12) ∷ []) [])) (seen w (now (places .entry)))) r (now (places .exit)) (now (heads .exit)) (now (links .exit)) ⌝ }
+{
+    match w {
+        Found::Places(count) => {
+            if unimp_behind(image, base, p) {
+                return add_plain(places, heads, links, count, room, further(p, 12));
+            }
+            Found::Places(count)
+        }
+        Found::Forbidden(a) => Found::Forbidden(a),
+        Found::NoRoom(a) => Found::NoRoom(a),
+    }
+}
+
 // Adds what a jmpl names: what follows the delay slot is known only when run, and comes back only to a link.
 fn add_jump(
+    image: &[u8],
+    base: u32,
     places: &mut [u8],
     heads: &mut [u16; 8192],
     links: &mut [u16; 8192],
@@ -180,17 +211,20 @@ fn add_jump(
     n: SourcePc,
 ) -> Found
     requires { ⌜ Ready room (now places) count (now heads) (now links) ⌝ }
-    ensures { λ r. ⌜ Known room (grow room (placesIn (now (places .entry)) count) (names (transferred (Jumps rd)) (p .0) (n .0))) r (now (places .exit)) (now (heads .exit)) (now (links .exit)) ⌝ }
+    ensures { λ r. ⌜ Known room (grow room (placesIn (now (places .entry)) count) (names (transferred (Jumps rd)) (unimpBehind (now (image .entry)) base (p .0)) (p .0) (n .0))) r (now (places .exit)) (now (heads .exit)) (now (links .exit)) ⌝ }
 {
     let w = add_held(places, heads, links, count, room, n);
     if rd == 0 {
         return w;
     }
-    then_plain(places, heads, links, w, room, further(p, 8))
+    let v = then_plain(places, heads, links, w, room, further(p, 8));
+    then_past(image, base, places, heads, links, v, room, p)
 }
 
 // Adds what a word at (p, n) names, in its order.
 pub fn add_names(
+    image: &[u8],
+    base: u32,
     places: &mut [u8],
     heads: &mut [u16; 8192],
     links: &mut [u16; 8192],
@@ -201,7 +235,7 @@ pub fn add_names(
     n: SourcePc,
 ) -> Found
     requires { ⌜ Ready room (now places) count (now heads) (now links) ⌝ }
-    ensures { λ r. ⌜ Known room (grow room (placesIn (now (places .entry)) count) (names (transferred f) (p .0) (n .0))) r (now (places .exit)) (now (heads .exit)) (now (links .exit)) ⌝ }
+    ensures { λ r. ⌜ Known room (grow room (placesIn (now (places .entry)) count) (names (transferred f) (unimpBehind (now (image .entry)) base (p .0)) (p .0) (n .0))) r (now (places .exit)) (now (heads .exit)) (now (links .exit)) ⌝ }
 {
     match f {
         Flow::Faults => Found::Places(count),
@@ -209,12 +243,13 @@ pub fn add_names(
         Flow::Continues => add_plain(places, heads, links, count, room, n),
         Flow::Calls(disp) => {
             let w = add_pair(places, heads, links, count, room, n, target(p, disp));
-            then_plain(places, heads, links, w, room, further(p, 8))
+            let v = then_plain(places, heads, links, w, room, further(p, 8));
+            then_past(image, base, places, heads, links, v, room, p)
         }
         Flow::Branches(cond, annul, disp) => {
             let t = target(p, disp);
             add_branch(places, heads, links, count, room, cond, annul, t, n)
         }
-        Flow::Jumps(rd) => add_jump(places, heads, links, count, room, rd, p, n),
+        Flow::Jumps(rd) => add_jump(image, base, places, heads, links, count, room, rd, p, n),
     }
 }

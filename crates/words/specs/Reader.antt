@@ -1,6 +1,6 @@
 -- 01: "Each word reads as one instruction whose second operand is a register or a signed 13-bit constant."
 use Prim.Native.Nat.{ℕ, zero, suc, _/_, _%_, _^_}
-use mathlib.Core.Bool.{Bool, true, false}
+use mathlib.Core.Bool.{Bool, true, false, _&&_}
 use mathlib.Core.List.{List, [], _∷_}
 use lib.Dec.{eqb}
 use Rattle.numbers.specs.Choice.{pick, find}
@@ -102,6 +102,10 @@ byFormat (suc (suc (suc n))) word = format3Of (bits word 19 6) (bits word 25 5) 
 -- "All others are illegal. Unused bits are ignored."
 unfoldable pub instructionOf : ℕ → Instruction
 instructionOf word = byFormat (bits word 30 2) word
+
+-- 02, N1: a word "with bits 31, 30 and 24 to 22 all 0", as V8 draws unimp, whatever else it reads as
+unfoldable pub isUnimp : ℕ → Bool
+isUnimp word = eqb (bits word 30 2) 0 && eqb (bits word 22 3) 0
 
 -- an instruction where a jmpl is called for: any other is as good as illegal
 unfoldable pub asJmpl : Instruction → Instruction

@@ -4,7 +4,7 @@ ghost use Prim.Native.Nat.{ℕ, _<_};
 ghost use Rattle.numbers.specs.Number.{signed};
 ghost use Rattle.words.specs.declared.Operand.{Operand};
 ghost use Rattle.words.specs.declared.Instruction.the-variants.{Ticc};
-ghost use Rattle.words.specs.Reader.{bits, bitSet, operandOf, format0Of, format2Of, format3Of, instructionOf, asJmpl};
+ghost use Rattle.words.specs.Reader.{bits, bitSet, operandOf, format0Of, format2Of, format3Of, instructionOf, isUnimp, asJmpl};
 ghost use Rattle.words.specs.Conditions.{bitAt, holdsOf};
 ghost use Rattle.words.specs.Flow.{flowOf};
 
@@ -245,6 +245,16 @@ pub fn read_jmpl(word: u32) -> Instruction
         }
     }
     Instruction::Illegal
+}
+
+// Whether a word is an unimp, by its raw bits.
+pub fn is_unimp(word: u32) -> bool
+    ensures { λ r. ⌜ r ≡ isUnimp word ⌝ }
+{
+    if op(word) == 0 {
+        return op2(word) == 0;
+    }
+    false
 }
 
 // ---- control alone

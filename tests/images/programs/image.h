@@ -9,6 +9,10 @@ typedef unsigned long long wide;
 
 enum { RESULTS = 16 };
 
+/* A function that stays one of its own and keeps to the ABI at every level: one that returns a record then takes its
+ * address, and returns past the unimp behind its call. */
+#define APART __attribute__((noipa))
+
 /* Where the known results are looked for, in big-endian words. */
 extern word results[RESULTS];
 

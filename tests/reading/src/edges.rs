@@ -17,6 +17,8 @@ const CALL: u32 = 0x4000_0000;
 const RETURN: u32 = 0x81C3_E008; // jmpl register 15, constant 8, to register 0
 const LINK: u32 = 0x83C3_E008; // the same to register 1
 const ILLEGAL: u32 = 0;
+const UNIMP: u32 = 12; // as gcc puts it behind the call of a function that returns 12 bytes
+const OTHER: u32 = 0x0040_0000; // illegal too, but its op2 is not 0
 
 /// 01's listing.
 const LISTED: [u32; 4] = [0x1080_0003, ADD, ILLEGAL, TA];
@@ -397,6 +399,117 @@ fn first_events_of_branches() -> Vec<Edge> {
     ]
 }
 
+/// 02, N1: "bits 31, 30 and 24 to 22 all 0". A call and a jmpl that links, with each of the 32 bits set at p + 8, and
+/// with all but those five: the table has no room left just where p + 12, or else what comes after it, is named.
+fn record_calls_by_bit() -> Vec<Edge> {
+    let five = [31, 30, 24, 23, 22];
+    // plain 0, (4, 16), plain 8; then plain 12, or plain 16
+    let call = |word, address: u64| {
+        edge(&[CALL | 4, NOP, word, TA, TA], 0, &[0], (5, address, 0)).lent(3 * PLACE, 0)
+    };
+    // plain 0, plain 16, held 4, plain 8; then plain 12, or plain 20
+    let jump = |word, address: u64| {
+        let words = [LINK, NOP, word, TA, ADD, TA];
+        edge(&words, 0, &[0, 16], (5, address, 0)).lent(4 * PLACE, 0)
+    };
+    let mut edges = vec![
+        call(0x3E3F_FFFF, 12),
+        jump(0x3E3F_FFFF, 12),
+        call(0, 12),
+        jump(0, 12),
+    ];
+    for bit in 0..32 {
+        let set = five.contains(&bit);
+        edges.push(call(1 << bit, if set { 16 } else { 12 }));
+        edges.push(jump(1 << bit, if set { 20 } else { 12 }));
+    }
+    edges
+}
+
+/// The places of calls that return records, and tables that are one place short at p + 12.
+fn record_calls() -> Vec<Edge> {
+    let room = |words: &[u32], places, answer| {
+        edge(words, 0, &[0], answer).lent(places * PLACE, 160 * RECORD)
+    };
+    let jump = |rd: u32| [0x81C3_E008 | rd << 25, NOP, UNIMP, TA];
+    // ba 24; a word in its slot; 12 and 16 are p + 8 and p + 12, 32 and 36 would be n + 8 and n + 12
+    let slot = |word, after, far| [over(BA, 6), word, NOP, after, TA, TA, NOP, NOP, far, TA];
+    vec![
+        // plain 0, (4, 16), plain 8, plain 12, plain 16
+        room(&[CALL | 4, NOP, UNIMP, TA, TA], 5, (0, 5, 7)),
+        room(&[CALL | 4, NOP, UNIMP, TA, TA], 4, (5, 16, 0)),
+        room(&[CALL | 4, NOP, OTHER, TA, TA], 4, (0, 4, 6)),
+        // to p + 12: plain 0, (4, 12), plain 8, plain 12
+        room(&[CALL | 3, NOP, UNIMP, TA], 4, (0, 4, 6)),
+        room(&[CALL | 3, NOP, UNIMP, TA], 3, (5, 12, 0)),
+        // plain 0, held 4, plain 8, plain 12; with rd 0 the first two
+        room(&jump(1), 4, (0, 4, 6)),
+        room(&jump(1), 3, (5, 12, 0)),
+        room(&jump(15), 3, (5, 12, 0)),
+        room(&jump(16), 3, (5, 12, 0)),
+        room(&jump(31), 3, (5, 12, 0)),
+        room(&jump(0), 2, (0, 2, 4)),
+        room(&[LINK, NOP, OTHER, TA], 3, (0, 3, 5)),
+        // plain 0, (4, 24), (24, 20), plain 12, plain 16, plain 20
+        room(&slot(CALL | 4, UNIMP, NOP), 6, (0, 6, 8)),
+        room(&slot(CALL | 4, UNIMP, NOP), 4, (5, 16, 0)),
+        room(&slot(CALL | 4, TA, UNIMP), 5, (0, 5, 7)),
+        room(&slot(CALL | 4, TA, UNIMP), 4, (5, 20, 0)),
+        // plain 0, (4, 24), held 24, plain 12, plain 16; with rd 0 the first three
+        room(&slot(LINK, UNIMP, NOP), 5, (0, 5, 7)),
+        room(&slot(LINK, UNIMP, NOP), 4, (5, 16, 0)),
+        room(&slot(LINK, TA, UNIMP), 4, (0, 4, 6)),
+        room(&slot(RETURN, UNIMP, UNIMP), 3, (0, 3, 5)),
+        // p + 12 or p + 8 is an entry
+        edge(&jump(1), 0, &[0, 12], (5, 8, 0)).lent(3 * PLACE, 0),
+        edge(&jump(1), 0, &[0, 12], (0, 4, 6)).lent(4 * PLACE, 6 * RECORD),
+        edge(&jump(1), 0, &[0, 8], (5, 12, 0)).lent(3 * PLACE, 0),
+        // the last word is at p + 8, and p + 12 outside; at p + 4; at p
+        room(&[LINK, NOP, UNIMP], 4, (0, 4, 6)),
+        room(&[LINK, NOP, UNIMP], 3, (5, 12, 0)),
+        room(&[CALL | 4, NOP, UNIMP], 5, (0, 5, 7)),
+        room(&[LINK, NOP], 3, (0, 3, 5)),
+        room(&[CALL | 4, NOP], 4, (0, 4, 6)),
+        room(&[LINK], 3, (0, 3, 4)),
+        room(&[CALL | 4], 3, (0, 3, 4)),
+    ]
+}
+
+/// The same with sums across the top of the address space: p + 4, p + 8 or p + 12 is 0.
+fn record_calls_across_the_top() -> Vec<Edge> {
+    let jump = [LINK, NOP, UNIMP, TA];
+    let of = |words: &[u32], base: u32, places: usize, answer| {
+        edge(words, base, &[base], answer).lent(places * PLACE, 160 * RECORD)
+    };
+    let mut edges = vec![];
+    for base in [0xFFFF_FFFC, 0xFFFF_FFF8, 0xFFFF_FFF4, 0xFFFF_FFF0u32] {
+        let past = base.wrapping_add(12) as u64;
+        edges.push(of(&jump, base, 4, (0, 4, 6)));
+        edges.push(of(&jump, base, 3, (5, past, 0)));
+        // outside, and p + 8 outside
+        edges.push(of(&jump[..3], base, 3, (5, past, 0)));
+        edges.push(of(&jump[..2], base, 3, (0, 3, 5)));
+        // (p + 4, p + 16) and plain p + 16
+        edges.push(of(&[CALL | 4, NOP, UNIMP, TA, TA], base, 3, (5, past, 0)));
+        edges.push(of(&[CALL | 4, NOP, UNIMP, TA, TA], base, 5, (0, 5, 7)));
+    }
+    edges
+}
+
+/// Refusal 4 where only p + 12 leads: plain 0, (4, 24), plain 8, plain 12, plain 24, held 16 (forbidden).
+fn forbidden_past_a_call() -> Vec<Edge> {
+    let of = |word, places: usize, answer| {
+        let words = [CALL | 6, NOP, word, RETURN, BA, NOP, TA];
+        edge(&words, 0, &[0], answer).lent(places * PLACE, 160 * RECORD)
+    };
+    vec![
+        of(UNIMP, 80, (4, 16, 0)),
+        of(UNIMP, 6, (4, 16, 0)),
+        of(UNIMP, 5, (5, 16, 0)),
+        of(OTHER, 80, (0, 4, 6)),
+    ]
+}
+
 /// Refusals 5 and 6 on 01's listing, which has three places and four records.
 fn short_buffers() -> Vec<Edge> {
     let lend = |places, records, answer| edge(&LISTED, 0, &[0], answer).lent(places, records);
@@ -529,6 +642,10 @@ pub fn edges() -> Vec<Edge> {
         first_named(),
         first_named_elsewhere(),
         first_events_of_branches(),
+        record_calls_by_bit(),
+        record_calls(),
+        record_calls_across_the_top(),
+        forbidden_past_a_call(),
         short_buffers(),
         across_the_top(),
         most_places(),
@@ -545,7 +662,7 @@ pub fn edges_file() -> Vec<u8> {
     [bytes([cases.len() as u32]), cases.concat()].concat()
 }
 
-/// Inputs of the listing program, each with how its output starts: 01's, conditional branches, around 0 and 1,024
+/// Inputs of the listing program, each with how its output starts: 01's, conditional branches, a call that returns a record, around 0 and 1,024
 /// bytes, a refusal of each number that it can meet, and 512 and 513 places.
 pub fn listings() -> Vec<(Vec<u8>, &'static str)> {
     let zeros = |length| vec![0; length];
@@ -561,6 +678,7 @@ pub fn listings() -> Vec<(Vec<u8>, &'static str)> {
         (bytes(LISTED), "place address next kind record\n0 0 4 0 0\n1 4 12 1 1\n2 12 16 0 3\nkind first second\n5 1 0\n1 2181062657 0\n5 3 0\n1 2446336000 0\n"),
         (bytes([over(BE, 3), ADD, TA | 1, TA]), "place address next kind record\n0 0 4 0 0\n1 4 8 0 2\n2 4 12 1 4\n3 8 12 0 6\n4 12 16 0 7\nkind first second\n4 1 4\n5 2 0\n1 2181062657 0\n5 6 0\n1 2181062657 0\n5 7 0\n1 2446336001 0\n1 2446336000 0\n"),
         (bytes([over(BE | ANNUL, 3), ADD, TA | 1, TA]), "place address next kind record\n0 0 4 0 0\n1 8 12 0 2\n2 4 12 1 3\n3 12 16 0 5\nkind first second\n4 1 3\n5 2 0\n1 2446336001 0\n1 2181062657 0\n5 5 0\n1 2446336000 0\n"),
+        (bytes([CALL | 4, NOP, UNIMP, TA, TA | 1]), "place address next kind record\n0 0 4 0 0\n1 4 16 1 2\n2 8 12 0 4\n3 12 16 0 5\n4 16 20 0 6\nkind first second\n2 0 0\n5 2 0\n1 16777216 0\n5 6 0\n7 3 8\n1 2446336000 0\n1 2446336001 0\n"),
         (zeros(0), "refused detail\n1 0\n"),
         (zeros(1), "refused detail\n1 1\n"),
         (zeros(3), "refused detail\n1 3\n"),

@@ -68,6 +68,21 @@ pub fn word_at(image: Image, address: u32) -> Word {
     }
 }
 
+/// Where a call at p comes back to: "plain p + 8"; 02, N1: "Where ... the word at p + 8 is in the image with bits 31, 30
+/// and 24 to 22 all 0, the place at p names plain p + 12 right after plain p + 8."
+fn returns(image: Image, p: u32) -> Vec<Place> {
+    let at = p.wrapping_add(8);
+    let past = match image.word(at) {
+        Some(word) => [31, 30, 24, 23, 22].iter().all(|bit| word >> bit & 1 == 0),
+        None => false,
+    };
+    if past {
+        vec![Place::Plain(at), Place::Plain(p.wrapping_add(12))]
+    } else {
+        vec![Place::Plain(at)]
+    }
+}
+
 /// "Each names its followers, in the order given here".
 pub fn followers(image: Image, place: Place) -> Vec<Place> {
     let (p, n) = match place {
@@ -77,7 +92,6 @@ pub fn followers(image: Image, place: Place) -> Vec<Place> {
         Place::Plain(_) | Place::Slot(_, _) => (place.address(), place.next()),
     };
     let after_n = n.wrapping_add(4);
-    let return_address = p.wrapping_add(8);
     let instruction = match word_at(image, p) {
         // "p outside the image, illegal word, Ticc 8: none."
         Word::Outside | Word::Illegal => return vec![],
@@ -88,7 +102,7 @@ pub fn followers(image: Image, place: Place) -> Vec<Place> {
         // "call to t: (n, t), then plain p + 8."
         Instruction::Call { displacement } => {
             let t = p.wrapping_add(displacement);
-            vec![Place::pair(n, t), Place::Plain(return_address)]
+            [vec![Place::pair(n, t)], returns(image, p)].concat()
         }
         Instruction::Bicc {
             condition,
@@ -110,7 +124,7 @@ pub fn followers(image: Image, place: Place) -> Vec<Place> {
         }
         // "jmpl: held n, then plain p + 8 if rd is not 0."
         Instruction::Jmpl { rd: 0, .. } => vec![Place::Held(n)],
-        Instruction::Jmpl { .. } => vec![Place::Held(n), Place::Plain(return_address)],
+        Instruction::Jmpl { .. } => [vec![Place::Held(n)], returns(image, p)].concat(),
         // "any other word that is not call, Bicc or jmpl: plain n."
         _ => vec![Place::Plain(n)],
     }

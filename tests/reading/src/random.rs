@@ -6,6 +6,7 @@ use crate::old_core::{lies_in_image, Image};
 use crate::places::{made_by_the_rules, walk, Place, Stop};
 use crate::state::{NEW_STATE, OLD_STATE};
 use crate::translator::{bytes, translate, Refusal, Translation};
+use crate::words::{decode, Instruction};
 
 /// splitmix64.
 pub struct Random {
@@ -360,7 +361,7 @@ pub(crate) fn random_jmpl(random: &mut Random, program: &Program) -> u32 {
             rs1,
             constant(random.pick(&[-8, -4, 4, 8, 12, 2, 1])),
         ),
-        2 => format_3(2, 0x38, rd, 15, constant(8)),
+        2 => format_3(2, 0x38, rd, 15, constant(random.pick(&[8, 12]))),
         3 => {
             let index = random.pick(&NUMBER_REGISTERS);
             format_3(2, 0x38, rd, rs1, index)
@@ -399,6 +400,22 @@ fn make_blocks(random: &mut Random, program: &mut Program) {
             program.words[at as usize] = word;
         }
         position = slot + 1;
+    }
+}
+
+/// Behind the delay slots of some calls a word that lets the callee return past it, or that misses it by one bit.
+fn return_records(random: &mut Random, program: &mut Program) {
+    for position in 2..program.words.len() {
+        let links = match decode(program.words[position - 2]) {
+            Some(Instruction::Call { .. }) => true,
+            Some(Instruction::Jmpl { rd, .. }) => rd != 0,
+            _ => false,
+        };
+        if links && random.chance(50) {
+            let size = random.pick(&[0, 8, 12, 0xFFFF_FFFF]);
+            let bit = random.pick(&[0, 0, 0, 0, 0, 1 << 22, 1 << 23, 1 << 24, 1 << 30, 1 << 31]);
+            program.words[position] = size & 0x3E3F_FFFF | bit;
+        }
     }
 }
 
@@ -456,6 +473,9 @@ pub fn random_program(random: &mut Random) -> Program {
         let word = random_word(random, &BACK, count - 2, &program);
         program.words[count as usize - 2] = word;
     }
+    if random.chance(50) {
+        return_records(random, &mut program);
+    }
     for _ in 0..random.pick(&[1, 1, 1, 2, 2, 3, 4]) {
         let position = if random.chance(40) {
             0
@@ -490,6 +510,7 @@ pub fn random_large_program(random: &mut Random) -> Program {
     for position in 0..count {
         program.words[position as usize] = random_word(random, &style, position, &program);
     }
+    return_records(random, &mut program);
     for _ in 0..random.between(1, 64) {
         program
             .entries

@@ -1,5 +1,5 @@
 use Rattle.model.proofs.Branches.{never-names, always-names, always-annuls, depends-names}
-use Rattle.places.proofs.Walking.{known-two}
+use Rattle.places.proofs.Walking.{known-append}
 use borrow.Author.Needs.{needs}
 use Rattle.places.proofs.worklist.add_branch.Statement.{statement}
 use Rattle.places.proofs.worklist.add_branch.Tie as tie
@@ -57,7 +57,7 @@ returns-4 c = let b = c .before .before .before .before .before .before .before 
     let d = b .before .before .before .before .before in
     let s = d .before .before .before in
     rw (depends-names (s .args .cond) (s .args .annul) (s .args .t .0) (s .args .n .0) (d .before .if1 .left) (d .if2 .left), ← b .before .untaken2 .ensures)
-    (known-two _ _ _ _ _ _ (b .add-plain3 .ensures .reads) (c .before .before .then-pair .ensures))
+    (known-append _ _ _ _ _ _ (b .add-plain3 .ensures .reads) (c .before .before .then-pair .ensures))
 
 pub add-branch-spec : {M : Type 1} → statement M
 add-branch-spec =

@@ -1,6 +1,6 @@
 use Rattle.model.specs.Places.{names}
 use Rattle.places.specs.Control.{transferred}
-use Rattle.places.proofs.Walking.{known-two}
+use Rattle.places.proofs.Walking.{known-returns}
 use borrow.Author.Tests.{eq-eqb, ne-eqb}
 use borrow.Author.Needs.{needs}
 use Rattle.places.proofs.worklist.add_jump.Statement.{statement}
@@ -22,13 +22,19 @@ further-requires c κs = search needs
 then-plain-requires : tie.Need-then-plain-requires
 then-plain-requires c κs = search needs
 
+then-past-requires : tie.Need-then-past-requires
+then-past-requires c κs = search needs
+
 same-length-2 : tie.Need-same-length-2
 same-length-2 c = search needs
 
 returns-2 : tie.Need-returns-2
 unfolding names transferred
-returns-2 c = let b = c .before .before .before .before .before .before .before in
-    rw (ne-eqb _ _ (b .if1 .left), ← c .before .before .before .further .ensures) (known-two _ _ _ _ _ _ (b .before .before .before .add-held .ensures .reads) (c .before .before .then-plain .ensures))
+returns-2 c = let b = c .before .before .before .before .before .before .before .before in
+    let d = b .before .before .before .before .before in
+    rw (ne-eqb _ _ (d .if1 .left))
+    (known-returns _ _ _ _ _ _ _ _ _ (d .before .before .before .add-held .ensures .reads) (rw (b .before .further .ensures) at (b .then-plain .ensures))
+    (c .before .before .then-past .ensures))
 
 pub add-jump-spec : {M : Type 1} → statement M
 add-jump-spec =
@@ -39,5 +45,6 @@ add-jump-spec =
     returns
     further-requires
     then-plain-requires
+    then-past-requires
     same-length-2
     returns-2)

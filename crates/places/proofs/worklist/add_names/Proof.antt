@@ -2,7 +2,7 @@ use Rattle.model.specs.Places.{names}
 use Rattle.model.specs.Walk.{grow}
 use Rattle.places.specs.Control.{transferred}
 use Rattle.places.specs.Walk.{seen}
-use Rattle.places.proofs.Walking.{still, known-two}
+use Rattle.places.proofs.Walking.{still, known-returns}
 use mathlib.Core.Path.{refl}
 use borrow.Author.Needs.{needs}
 use Rattle.places.proofs.worklist.add_names.Statement.{statement}
@@ -35,6 +35,9 @@ further-requires c κs = search needs
 then-plain-requires : tie.Need-then-plain-requires
 then-plain-requires c κs = search needs
 
+then-past-requires : tie.Need-then-past-requires
+then-past-requires c κs = search needs
+
 enum-known-f-2 : tie.Need-enum-known-f-2
 enum-known-f-2 c = search needs
 
@@ -52,11 +55,11 @@ add-jump-requires c κs = search needs
 
 returns : tie.Need-returns
 unfolding names transferred grow seen
-returns c = rw (c .enum-told .given .1) (still refl (c .before .before .before .pre))
+returns c = rw (c .enum-told .given .1) (still refl (c .before .before .before .before .pre))
 
 returns-2 : tie.Need-returns-2
 unfolding names transferred grow seen
-returns-2 c = rw (c .enum-told2 .given .1) (still refl (c .before .before .before .pre))
+returns-2 c = rw (c .enum-told2 .given .1) (still refl (c .before .before .before .before .pre))
 
 same-length : tie.Need-same-length
 same-length c = search needs
@@ -70,8 +73,11 @@ same-length-2 c = search needs
 
 returns-4 : tie.Need-returns-4
 unfolding names transferred
-returns-4 c = let b = c .before .before .before .before .before .before .before .before .before in
-    rw (b .before .before .before .before .before .before .f .given .1, ← b .before .target .ensures, ← c .before .before .before .further .ensures) (known-two _ _ _ _ _ _ (b .add-pair .ensures .reads) (c .before .before .then-plain .ensures))
+returns-4 c = let b = c .before .before .before .before .before .before .before .before in
+    let d = b .before .before .before .before .before .before .before in
+    rw (d .before .before .before .before .before .before .f .given .1, ← d .before .target .ensures)
+    (known-returns _ _ _ _ _ _ _ _ _ (d .add-pair .ensures .reads) (rw (b .before .further .ensures) at (b .then-plain .ensures))
+    (c .before .before .then-past .ensures))
 
 same-length-3 : tie.Need-same-length-3
 same-length-3 c = search needs
@@ -99,6 +105,7 @@ add-names-spec =
     add-pair-requires
     further-requires
     then-plain-requires
+    then-past-requires
     enum-known-f-2
     target-requires-2
     add-branch-requires

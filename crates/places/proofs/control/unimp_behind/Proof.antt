@@ -1,0 +1,42 @@
+use Rattle.model.specs.Places.{unimpIn, unimpBehind}
+use Rattle.places.proofs.Flows.{fetched-none, fetched-some}
+use borrow.Author.Needs.{needs}
+use Rattle.places.proofs.control.unimp_behind.Statement.{statement}
+use Rattle.places.proofs.control.unimp_behind.Tie as tie
+
+further-requires : tie.Need-further-requires
+further-requires c κs = search needs
+
+fetch-requires : tie.Need-fetch-requires
+fetch-requires c κs = search needs
+
+enum-known-f : tie.Need-enum-known-f
+enum-known-f c = search needs
+
+is-unimp-requires : tie.Need-is-unimp-requires
+is-unimp-requires c κs = search needs
+
+enum-told : tie.Need-enum-told
+enum-told c = search needs
+
+returns : tie.Need-returns
+unfolding unimpIn unimpBehind
+returns c = let b = c .before .before .before .before in
+    rw (← b .before .further .ensures, fetched-some _ _ _ (b .fetch .ensures) (c .before .before .f .given .1)) (c .is-unimp .ensures)
+
+returns-2 : tie.Need-returns-2
+unfolding unimpIn unimpBehind
+returns-2 c = let b = c .before .before in
+    rw (← b .before .further .ensures, fetched-none _ _ _ (b .fetch .ensures) (c .enum-told .given .1))
+
+pub unimp-behind-spec : {M : Type 1} → statement M
+unimp-behind-spec =
+    tie.close
+    (tie.spec
+    further-requires
+    fetch-requires
+    enum-known-f
+    is-unimp-requires
+    enum-told
+    returns
+    returns-2)
