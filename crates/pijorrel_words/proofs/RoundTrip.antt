@@ -3,10 +3,9 @@ use Prim.Native.Nat.{ℕ, zero, suc, _+_, _*_, _/_, _%_, _^_, _<_, _≤_}
 use mathlib.Core.Path.{_≡_, refl, ap, _∙_}
 use mathlib.Core.Bool.{Bool, true, false, not, _&&_, false≢true}
 use mathlib.Core.List.{List, [], _∷_}
-use native.Mathlib.Nat.{mod-lt, mod-eq-of-lt, pow-le-pow-right}
+use native.Mathlib.Nat.{mod-eq-of-lt, pow-le-pow-right}
 use native.Mathlib.Omega.{arith}
 use lib.Dec.{eqb, ltb}
-use lib.Pow.{pow-pos}
 use lib.ListN.{getD}
 use borrow.Author.Tests.{lt-ltb, ltb-true, le-leb, ne-eqb, eqb-true}
 use Rattle.numbers.specs.Choice.{pick}
@@ -32,7 +31,7 @@ use Rattle.words.specs.declared.Instruction.the-variants.{Illegal, Call, Sethi,
 use Rattle.words.specs.declared.Written.{Written}
 use Rattle.words.specs.declared.Written.the-variants.{Fit, Unfit}
 use Rattle.words.proofs.Strict.{left-strictly}
-use Rattle.words.proofs.RoundTrip.{reads-back, writes-again}
+use Rattle.words.proofs.RoundTrip.{in-bits, reads-back, writes-again}
 use Rattle.pijorrel_words.specs.Forms.{withOperand, sixOf, operandFrom, byOp, forms, instructionFrom, answerOf, writes, reads}
 use Rattle.pijorrel_words.specs.RoundTrip.{counted, normalOf, normal, ReadsBack, WritesAgain}
 
@@ -127,13 +126,9 @@ shortAll (Store w rd rs1 x) = short rd && (short rs1 && shortOperand x)
 shortAll (Shift o rd rs1 x) = short rd && (short rs1 && shortOperand x)
 
 -- a field that was cut, and one whose sign was extended
-cut-lt : (word low n : ℕ) → bits word low n < 2 ^ n
-unfolding bits
-cut-lt word low n = mod-lt (word / 2 ^ low) (pow-pos n)
-
 cut-short : (word low n : ℕ) → n ≤ 32 → short (bits word low n) ≡ true
 cut-short word low n h =
-    let a = cut-lt word low n in
+    let a = in-bits word low n in
     let b : 2 ^ n ≤ 2 ^ 32 = pow-le-pow-right (omega arith) h in
     lt-ltb (bits word low n) (2 ^ 32) (omega arith)
 
@@ -150,8 +145,8 @@ format-short : (k word : ℕ) → shortAll (byFormat k word) ≡ true
 unfolding byFormat format0Of format2Of format3Of
 format-short zero word =
     found-passes (λ k i. shortAll i) (rows0 word) Illegal (bits word 22 3)
-    (rw (cut-short word 25 4 (omega arith), cut-short word 25 5 (omega arith), cut-short word 0 22 (omega arith), signed-short 22 (bits word 0 22) (cut-lt word 0 22) (omega arith))) refl
-format-short (suc zero) word = signed-short 30 (bits word 0 30) (cut-lt word 0 30) (omega arith)
+    (rw (cut-short word 25 4 (omega arith), cut-short word 25 5 (omega arith), cut-short word 0 22 (omega arith), signed-short 22 (bits word 0 22) (in-bits word 0 22) (omega arith))) refl
+format-short (suc zero) word = signed-short 30 (bits word 0 30) (in-bits word 0 30) (omega arith)
 format-short (suc (suc zero)) word =
     found-passes (λ k f. shortAll (f (bits word 25 4) (bits word 25 5) (bits word 14 5) (operandOf word))) rows2 none2 (bits word 19 6)
     (rw (cut-short word 25 4 (omega arith), cut-short word 25 5 (omega arith), cut-short word 14 5 (omega arith), operand-short word)) refl

@@ -1,7 +1,7 @@
 -- An instruction that is not refused reads back from its word, and a known word is written again.
 use Prim.Native.Nat.{ℕ, zero, suc, _/_, _%_, _^_, _<_}
 use mathlib.Core.Path.{_≡_, refl, sym}
-use mathlib.Core.Bool.{Bool, true, false, not, _&&_, _||_, false≢true}
+use mathlib.Core.Bool.{Bool, true, false, not, _||_, false≢true}
 use mathlib.Core.List.{List, [], _∷_}
 use native.Mathlib.Nat.{mod-lt, mod-eq-of-lt}
 use native.Mathlib.Omega.{arith}
@@ -28,6 +28,7 @@ use Rattle.words.specs.declared.Written.the-variants.{Fit}
 use Rattle.words.specs.Reader.{bits, bitSet, operandOf, rows0, format0Of, Format2, rows2, none2, format2Of, Format3, rows3, none3, format3Of, byFormat, setFrom, registerStrays, unusedSet, strictly, instructionOf}
 use Rattle.words.specs.Writer.{Field, plain, withSign, joined, operand, constant13, constant7, constant5, arithmeticOp3, shiftOp3, loadOp3, storeOp3, longWord, shiftWord, trapWord, sethiWord, branchWord, callWord, writtenOf}
 use Rattle.words.specs.RoundTrip.{ReadsBack, WritesAgain}
+use Rattle.words.proofs.Strict.{and-false, or-clear}
 use Rattle.words.proofs.Joined.{total, Sounds, Has, Holds, plain-sound, sign-sound, joined-holds, joined-back, read-fits, fits-read}
 
 -- ---- the second operand
@@ -90,10 +91,6 @@ not-signed k h = rw (lt-ltb k 4096 h)
 five-clear : (w : ℕ) → bits w 5 8 ≡ 0 → setFrom 5 w ≡ false
 unfolding setFrom
 five-clear w e = rw e
-
-and-false : (b : Bool) → b && false ≡ false
-and-false true = refl
-and-false false = refl
 
 beside-none : (w : ℕ) → bits w 5 8 ≡ 0 → registerStrays w ≡ false
 unfolding registerStrays
@@ -314,7 +311,7 @@ cut-has w low n = record { fitting = lt-ltb _ _ (mod-lt (w / 2 ^ low) (pow-pos n
 known-has : (w low n v : ℕ) → bits w low n ≡ v → Has w low (plain n v)
 known-has w low n v e = rw e at (cut-has w low n)
 
-in-bits : (w low n : ℕ) → bits w low n < 2 ^ n
+pub in-bits : (w low n : ℕ) → bits w low n < 2 ^ n
 unfolding bits
 in-bits w low n = mod-lt (w / 2 ^ low) (pow-pos n)
 
@@ -339,10 +336,6 @@ all-clear w n k h = go (eqb (bits w n k) 0) refl h
     go : (b : Bool) → eqb (bits w n k) 0 ≡ b → not b ≡ false → bits w n k ≡ 0
     go true e h = eqb-true (bits w n k) 0 e
     go false e h = absurd (false≢true (sym h))
-
-or-clear : (a b : Bool) → a || b ≡ false → (a ≡ false) × (b ≡ false)
-or-clear true b e = absurd (false≢true (sym e))
-or-clear false b e = (refl, e)
 
 register-clear : (w : ℕ) → bitSet w 13 ≡ false → registerStrays w ≡ false → bits w 5 8 ≡ 0
 unfolding registerStrays setFrom

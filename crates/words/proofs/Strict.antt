@@ -89,7 +89,7 @@ strays-any word l h = only-one _ (go (bits word 30 2) l)
         found-passes (λ k f. illegal (strictly word (f (bits word 25 5) (bits word 14 5) (operandOf word)))) rows3 none3 (bits word 19 6) (rw h) refl
 
 -- the test of the reader of control
-or-clear : (a b : Bool) → a || b ≡ false → (a ≡ false) × (b ≡ false)
+pub or-clear : (a b : Bool) → a || b ≡ false → (a ≡ false) × (b ≡ false)
 or-clear true b e = absurd (false≢true (sym e))
 or-clear false b e = (refl, e)
 
@@ -101,13 +101,13 @@ pub shift-none : (op3 word : ℕ) → operandStrays op3 word ≡ false → 37 �
 unfolding operandStrays
 shift-none op3 word h l u = rw (le-leb 37 op3 l, lt-ltb op3 40 u) at (or-clear (registerStrays word) _ h .1)
 
+pub and-false : (b : Bool) → b && false ≡ false
+and-false true = refl
+and-false false = refl
+
 pub no-bit-high : (op3 word : ℕ) → setFrom 5 word ≡ false → false ≡ operandStrays op3 word
 unfolding operandStrays registerStrays
 no-bit-high op3 word e = rw (e, and-false (not (bitSet word 13)), and-false (leb 37 op3 && ltb op3 40))
-  where
-    and-false : (b : Bool) → b && false ≡ false
-    and-false true = refl
-    and-false false = refl
 
 pub constant-strays : (op3 word v : ℕ) → bitSet word 13 ≡ true → setFrom 5 word ≡ true → v ≡ minus op3 37 → op3 < 2 ^ 32 → ltb v 3 ≡ operandStrays op3 word
 unfolding operandStrays registerStrays minus

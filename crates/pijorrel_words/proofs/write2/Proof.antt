@@ -1,5 +1,3 @@
-use mathlib.Core.Path.{sym, _∙_}
-use mathlib.Core.Bool.{not}
 use borrow.Author.Tests.{eq-eqb, ne-eqb, lt-ltb, le-ltb}
 use Rattle.pijorrel_words.proofs.Laws.{form-2}
 use borrow.Author.Needs.{needs}
