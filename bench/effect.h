@@ -36,7 +36,7 @@ static inline struct area data_area(uint8_t *data, size_t length, uint32_t base)
 
 static inline uint32_t operand(const struct machine *m, uint32_t word)
 {
-    if (word & 0x2000)
+    if (is_constant(word))
         return extended(word & 0x1FFF, 0x1000);
     return m->registers[word & 31];
 }
@@ -114,6 +114,8 @@ static inline enum outcome arithmetic(struct machine *m, uint32_t word)
     uint32_t carry = m->flags & 1;
     uint32_t result;
 
+    if (register_strays(word))
+        return ILLEGAL;
     switch (op3(word)) {
     case OP3_ADD: result = sum(m, a, b, 0, false); break;
     case OP3_AND: result = logic(m, a & b, false); break;
@@ -135,11 +137,11 @@ static inline enum outcome arithmetic(struct machine *m, uint32_t word)
     case OP3_XNOR | OP3_CC: result = logic(m, a ^ ~b, true); break;
     case OP3_ADDX | OP3_CC: result = sum(m, a, b, carry, true); break;
     case OP3_SUBX | OP3_CC: result = difference(m, a, b, carry, true); break;
-    case OP3_SLL: result = a << (b & 31); break;
-    case OP3_SRL: result = a >> (b & 31); break;
-    case OP3_SRA: result = shifted_signed(a, b & 31); break;
+    case OP3_SLL: if (word & UNUSED_ABOVE_5) return ILLEGAL; result = a << (b & 31); break;
+    case OP3_SRL: if (word & UNUSED_ABOVE_5) return ILLEGAL; result = a >> (b & 31); break;
+    case OP3_SRA: if (word & UNUSED_ABOVE_5) return ILLEGAL; result = shifted_signed(a, b & 31); break;
     case OP3_JMPL: return JMPL;
-    case OP3_TICC: trap(m, word, a + b); return DONE;
+    case OP3_TICC: if (word & UNUSED_TICC) return ILLEGAL; trap(m, word, a + b); return DONE;
     default: return ILLEGAL;
     }
     put_register(m, rd(word), result);
@@ -184,6 +186,8 @@ static inline enum outcome memory(struct machine *m, uint32_t word, const struct
     uint32_t d = rd(word);
     uint8_t *at;
 
+    if (register_strays(word))
+        return ILLEGAL;
     switch (op3(word)) {
     case OP3_LD: if ((at = reach(m, data, address, 4))) put_register(m, d, word_at(at)); break;
     case OP3_LDUB: if ((at = reach(m, data, address, 1))) put_register(m, d, *at); break;

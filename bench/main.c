@@ -1,6 +1,6 @@
-/* The main of the benchmarks of both cores and of the translator.
+/* The main of the benchmarks of both cores, of the translator and of the writer.
  *
- *   bench_OF                times all loops or samples on both sides
+ *   bench_OF                times all loops, samples or lists on both sides
  *   bench_OF --round NAME   one round of one of them, to count instructions in
  *   bench_OF --check FILE   holds both sides to the cases of a vectors file
  *

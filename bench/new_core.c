@@ -49,7 +49,7 @@ static inline void do_word(struct rival_new_state *s, uint32_t word, const struc
 /* Kind 3 */
 static inline void hold(struct rival_new_state *s, uint32_t word, uint32_t source)
 {
-    if (word >> 30 != FORMAT_ARITHMETIC || op3(word) != OP3_JMPL)
+    if (word >> 30 != FORMAT_ARITHMETIC || op3(word) != OP3_JMPL || register_strays(word))
         bad_record(s);
     else if (jump(&s->m, word, source, &s->held))
         s->record++;

@@ -48,6 +48,8 @@ enum class { OUTSIDE, ILLEGAL, CALL, BICC, JMPL, TICC, OTHER };
 
 static inline enum class arithmetic_class(uint32_t word)
 {
+    if (register_strays(word))
+        return ILLEGAL;
     switch (op3(word)) {
     case OP3_ADD: case OP3_ADD | OP3_CC:
     case OP3_AND: case OP3_AND | OP3_CC:
@@ -59,15 +61,18 @@ static inline enum class arithmetic_class(uint32_t word)
     case OP3_XNOR: case OP3_XNOR | OP3_CC:
     case OP3_ADDX: case OP3_ADDX | OP3_CC:
     case OP3_SUBX: case OP3_SUBX | OP3_CC:
-    case OP3_SLL: case OP3_SRL: case OP3_SRA: return OTHER;
+        return OTHER;
+    case OP3_SLL: case OP3_SRL: case OP3_SRA: return word & UNUSED_ABOVE_5 ? ILLEGAL : OTHER;
     case OP3_JMPL: return JMPL;
-    case OP3_TICC: return TICC;
+    case OP3_TICC: return word & UNUSED_TICC ? ILLEGAL : TICC;
     default: return ILLEGAL;
     }
 }
 
 static inline enum class memory_class(uint32_t word)
 {
+    if (register_strays(word))
+        return ILLEGAL;
     switch (op3(word)) {
     case OP3_LD: case OP3_LDUB: case OP3_LDUH: case OP3_LDSB: case OP3_LDSH:
     case OP3_ST: case OP3_STB: case OP3_STH: return OTHER;

@@ -156,6 +156,34 @@ struct pijorrel_end pijorrel_new_run(const uint8_t *records, size_t records_leng
                                      uint8_t state[PIJORREL_NEW_STATE], uint8_t *data, size_t data_length,
                                      uint16_t count);
 
+/* ---- words ----
+ *
+ * An instruction is six numbers, 24 bytes, in the byte order of all numbers here.
+ *   0  form: 64 * op + op3 for op 2 and 3, 64 for call, 2 for Bicc, 4 for sethi; 0 for a word that is not known
+ *   1  annul: 0, any other number counts as 1
+ *   2  rd, or the condition
+ *   3  rs1
+ *   4  0 where the second operand is a register; any other number counts as 1, a constant
+ *   5  the second register's number, the constant, or the displacement in words; negative ones modulo 2^32
+ * A number that the form does not have is 0 when read, and not looked at when written. Registers have 5 bits, a condition
+ * 4; a constant 13 with its sign, a shift's 5, a Ticc's 7 and sethi's 22 without; a displacement 22 of Bicc and 30 of
+ * call, with its sign. A word with an unused bit set is not known, here as to both cores and the translator: bits 12 to 5
+ * beside a register and above a shift's constant, bits 12 to 7 above a Ticc's, bit 29 of a Ticc. */
+#define PIJORREL_INSTRUCTION 24
+
+/* 0 and the word; or 7 and the bits of the field that a number does not fit, of several the highest in the word, and 0
+ * for a form that no word has. */
+struct pijorrel_written {
+    uint32_t number;
+    uint32_t value;
+};
+
+struct pijorrel_written pijorrel_write(const uint8_t instruction[PIJORREL_INSTRUCTION]);
+
+/* Leaves the instruction that a word reads as, six zeros for one that is not known. Written again, it is that word; and
+ * what was written is read with each number as it counts and 0 for those that the form does not have. */
+void pijorrel_read(uint32_t word, uint8_t instruction[PIJORREL_INSTRUCTION]);
+
 #ifdef __cplusplus
 }
 #endif

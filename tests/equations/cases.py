@@ -60,7 +60,8 @@ def transfer(word):
     if word >> 30 == 1:
         return "call"
     if word >> 30 == 2 and word >> 19 & 63 == 56:
-        return "jmpl"
+        stray = word >> 13 & 1 == 0 and word >> 5 & 0xFF != 0  # unused bits set beside a register
+        return None if stray else "jmpl"
     if word >> 30 == 0 and word >> 22 & 7 == 2:
         name = {0: "bn", 8: "ba"}.get(word >> 25 & 15, "bcc")
         return name + ",a" if word >> 29 & 1 else name

@@ -1,6 +1,7 @@
 /* The C interface as a loader meets it: bad input, edges of the areas, bytes around them. C and C++. */
 #include "pijorrel.h"
 
+#include <stddef.h>
 #include <stdio.h>
 #include <string.h>
 
@@ -255,6 +256,214 @@ static void first_bad_entry(void)
     CHECK(a.number == 5 && a.first == 0); /* a tail is no entry: the list is good */
 }
 
+/* ---- words */
+
+/* Each form once: its six numbers, and its word as an assembler writes it. */
+struct known_word {
+    uint32_t six[6];
+    uint32_t word;
+};
+
+static const struct known_word known_words[] = {
+    { { 128, 0, 1, 2, 0, 3 }, 0x82008003 },            /* add %g2, %g3, %g1 */
+    { { 129, 0, 17, 16, 1, 0xFFFFFFFF }, 0xA20C3FFF }, /* and %l0, -1, %l1 */
+    { { 130, 0, 8, 0, 1, 4095 }, 0x90102FFF },         /* or %g0, 4095, %o0 */
+    { { 131, 0, 29, 31, 0, 30 }, 0xBA1FC01E },         /* xor %i7, %i6, %i5 */
+    { { 132, 0, 14, 14, 1, 0xFFFFF000 }, 0x9C23B000 }, /* sub %o6, -4096, %o6 */
+    { { 133, 0, 2, 1, 1, 1 }, 0x84286001 },            /* andn %g1, 1, %g2 */
+    { { 134, 0, 3, 1, 0, 2 }, 0x86304002 },            /* orn %g1, %g2, %g3 */
+    { { 135, 0, 7, 0, 0, 7 }, 0x8E380007 },            /* xnor %g0, %g7, %g7 */
+    { { 136, 0, 10, 8, 0, 9 }, 0x94420009 },           /* addx %o0, %o1, %o2 */
+    { { 140, 0, 10, 8, 1, 0 }, 0x94622000 },           /* subx %o0, 0, %o2 */
+    { { 144, 0, 1, 2, 0, 3 }, 0x82808003 },            /* addcc %g2, %g3, %g1 */
+    { { 145, 0, 17, 16, 1, 0xFFFFFFFF }, 0xA28C3FFF }, /* andcc %l0, -1, %l1 */
+    { { 146, 0, 8, 0, 1, 4095 }, 0x90902FFF },         /* orcc %g0, 4095, %o0 */
+    { { 147, 0, 29, 31, 0, 30 }, 0xBA9FC01E },         /* xorcc %i7, %i6, %i5 */
+    { { 148, 0, 14, 14, 1, 0xFFFFF000 }, 0x9CA3B000 }, /* subcc %o6, -4096, %o6 */
+    { { 149, 0, 2, 1, 1, 1 }, 0x84A86001 },            /* andncc %g1, 1, %g2 */
+    { { 150, 0, 3, 1, 0, 2 }, 0x86B04002 },            /* orncc %g1, %g2, %g3 */
+    { { 151, 0, 7, 0, 0, 7 }, 0x8EB80007 },            /* xnorcc %g0, %g7, %g7 */
+    { { 152, 0, 10, 8, 0, 9 }, 0x94C20009 },           /* addxcc %o0, %o1, %o2 */
+    { { 156, 0, 10, 8, 1, 0 }, 0x94E22000 },           /* subxcc %o0, 0, %o2 */
+    { { 165, 0, 2, 1, 1, 31 }, 0x8528601F },           /* sll %g1, 31, %g2 */
+    { { 166, 0, 3, 1, 0, 2 }, 0x87304002 },            /* srl %g1, %g2, %g3 */
+    { { 167, 0, 25, 24, 1, 0 }, 0xB33E2000 },          /* sra %i0, 0, %i1 */
+    { { 184, 0, 0, 15, 1, 8 }, 0x81C3E008 },           /* jmpl %o7 + 8, %g0 */
+    { { 186, 0, 8, 1, 1, 127 }, 0x91D0607F },          /* ta %g1 + 127 */
+    { { 192, 0, 3, 1, 0, 2 }, 0xC6004002 },            /* ld [%g1 + %g2], %g3 */
+    { { 193, 0, 3, 1, 1, 0xFFFFFFFF }, 0xC6087FFF },   /* ldub [%g1 - 1], %g3 */
+    { { 194, 0, 9, 8, 0, 0 }, 0xD2120000 },            /* lduh [%o0], %o1 */
+    { { 196, 0, 31, 14, 1, 92 }, 0xFE23A05C },         /* st %i7, [%o6 + 92] */
+    { { 197, 0, 1, 2, 0, 3 }, 0xC2288003 },            /* stb %g1, [%g2 + %g3] */
+    { { 198, 0, 1, 2, 1, 0xFFFFFFFE }, 0xC230BFFE },   /* sth %g1, [%g2 - 2] */
+    { { 201, 0, 21, 23, 0, 22 }, 0xEA4DC016 },         /* ldsb [%l7 + %l6], %l5 */
+    { { 202, 0, 21, 23, 1, 2 }, 0xEA55E002 },          /* ldsh [%l7 + 2], %l5 */
+    { { 4, 0, 31, 0, 0, 0x3FFFFF }, 0x3F3FFFFF },      /* sethi 0x3FFFFF, %i7 */
+    { { 64, 0, 0, 0, 0, 0xFFFFFFFF }, 0x7FFFFFFF },    /* call, one word back */
+    { { 2, 1, 9, 0, 0, 0xFFFFFFFE }, 0x32BFFFFE },     /* bne,a, two words back */
+};
+
+enum { FORMS = sizeof known_words / sizeof *known_words };
+
+static void put_six(uint8_t *bytes, const uint32_t *six)
+{
+    for (int i = 0; i < 6; i++)
+        put_number(bytes, i, six[i]);
+}
+
+static struct pijorrel_written written(uint32_t form, uint32_t annul, uint32_t rd, uint32_t rs1, uint32_t mark,
+                                       uint32_t value)
+{
+    const uint32_t six[6] = { form, annul, rd, rs1, mark, value };
+    uint8_t bytes[PIJORREL_INSTRUCTION];
+    put_six(bytes, six);
+    return pijorrel_write(bytes);
+}
+
+static int is_word(struct pijorrel_written w, uint32_t word)
+{
+    return w.number == 0 && w.value == word;
+}
+
+static int unfit(struct pijorrel_written w, uint32_t bits)
+{
+    return w.number == 7 && w.value == bits;
+}
+
+/* A word reads as these six numbers, and nothing beside them is written; the bytes held no answer before. */
+static int reads_as(uint32_t word, const uint32_t *six)
+{
+    uint8_t area[PIJORREL_INSTRUCTION + 2 * GUARD], known[PIJORREL_INSTRUCTION + 2 * GUARD];
+    memset(area, 0xA5, sizeof area);
+    memset(known, 0xA5, sizeof known);
+    put_six(known + GUARD, six);
+    pijorrel_read(word, area + GUARD);
+    return memcmp(area, known, sizeof area) == 0;
+}
+
+static int is_unknown(uint32_t word)
+{
+    static const uint32_t zeros[6] = { 0, 0, 0, 0, 0, 0 };
+    return reads_as(word, zeros);
+}
+
+static void each_form(void)
+{
+    CHECK(sizeof(struct pijorrel_written) == 8 && offsetof(struct pijorrel_written, value) == 4);
+    CHECK(PIJORREL_INSTRUCTION == 24);
+    for (int i = 0; i < FORMS; i++) {
+        uint8_t bytes[PIJORREL_INSTRUCTION], kept[PIJORREL_INSTRUCTION];
+        put_six(bytes, known_words[i].six);
+        memcpy(kept, bytes, sizeof kept);
+        CHECK(is_word(pijorrel_write(bytes), known_words[i].word) && memcmp(bytes, kept, sizeof kept) == 0);
+        CHECK(reads_as(known_words[i].word, known_words[i].six));
+    }
+}
+
+/* Other forms have no word: 7 and 0, whatever the numbers are. */
+static void no_other_form(void)
+{
+    int fit = 0, without = 0;
+    for (uint32_t form = 0; form < 1024; form++) {
+        fit += written(form, 0, 0, 0, 0, 0).number == 0;
+        without += unfit(written(form, 9, 99, 99, 1, 0xFFFF0000), 0);
+    }
+    CHECK(fit == FORMS && without == 1024 - FORMS);
+    CHECK(unfit(written(0xFFFFFFFF, 0, 0, 0, 0, 0), 0) && unfit(written(128 + (1u << 31), 0, 0, 0, 0, 0), 0));
+    CHECK(is_unknown(0) && is_unknown(0xFFFFFFFF) && is_unknown(0xC0180000)); /* unimp, op3 63, ldd */
+}
+
+/* Of each field the last number that fits and the first that does not, on both sides of a signed one. */
+static void each_field(void)
+{
+    CHECK(is_word(written(128, 0, 31, 31, 0, 31), 0xBE07C01F));
+    CHECK(unfit(written(128, 0, 32, 0, 0, 0), 5) && unfit(written(128, 0, 0, 32, 0, 0), 5));
+    CHECK(unfit(written(128, 0, 0, 0, 0, 32), 5) && unfit(written(197, 0, 0, 0, 0, 0xFFFFFFFF), 5));
+    CHECK(unfit(written(166, 0, 0, 0, 0, 32), 5) && unfit(written(186, 0, 0, 0, 0, 32), 5));
+    CHECK(unfit(written(128, 0, 0, 0, 1, 4096), 13) && unfit(written(184, 0, 0, 0, 1, 0xFFFFEFFF), 13));
+    CHECK(unfit(written(165, 0, 0, 0, 1, 32), 5) && unfit(written(167, 0, 0, 0, 1, 0xFFFFFFFF), 5));
+    CHECK(unfit(written(186, 0, 0, 0, 1, 128), 7) && unfit(written(186, 0, 0, 0, 1, 0xFFFFFFFF), 7));
+    CHECK(is_word(written(186, 0, 15, 0, 1, 0), 0x9FD02000) && unfit(written(186, 0, 16, 0, 1, 0), 4));
+    CHECK(is_word(written(2, 0, 15, 0, 0, 0x1FFFFF), 0x1E9FFFFF) && unfit(written(2, 0, 15, 0, 0, 0x200000), 22));
+    CHECK(is_word(written(2, 1, 0, 0, 0, 0xFFE00000), 0x20A00000) && unfit(written(2, 1, 0, 0, 0, 0xFFDFFFFF), 22));
+    CHECK(unfit(written(2, 0, 16, 0, 0, 0), 4));
+    CHECK(unfit(written(4, 0, 0, 0, 0, 0x400000), 22) && unfit(written(4, 0, 32, 0, 0, 0), 5));
+    CHECK(is_word(written(64, 0, 0, 0, 0, 0x1FFFFFFF), 0x5FFFFFFF) && unfit(written(64, 0, 0, 0, 0, 0x20000000), 30));
+    CHECK(is_word(written(64, 0, 0, 0, 0, 0xE0000000), 0x60000000) && unfit(written(64, 0, 0, 0, 0, 0xDFFFFFFF), 30));
+}
+
+/* Of several numbers that do not fit, the one highest in the word counts. */
+static void highest_unfit(void)
+{
+    CHECK(unfit(written(128, 0, 32, 0, 1, 4096), 5) && unfit(written(128, 0, 0, 32, 1, 4096), 5));
+    CHECK(unfit(written(186, 0, 16, 32, 1, 128), 4) && unfit(written(186, 0, 0, 32, 1, 128), 5));
+    CHECK(unfit(written(186, 0, 16, 0, 0, 32), 4) && unfit(written(2, 0, 16, 0, 0, 0x200000), 4));
+    CHECK(unfit(written(4, 0, 32, 0, 0, 0x400000), 5));
+}
+
+/* Numbers that a form does not have are not looked at; of annul and of the mark any but 0 counts as 1. */
+static void numbers_beside(void)
+{
+    const uint32_t any = 0xFFFFFFFF;
+    CHECK(is_word(written(64, any, any, any, any, 1), 0x40000001));
+    CHECK(is_word(written(4, any, 1, any, any, 1), 0x03000001));
+    CHECK(is_word(written(2, 0, 8, any, any, 1), 0x10800001));
+    CHECK(is_word(written(128, any, 1, 2, 0, 3), 0x82008003));
+    CHECK(is_word(written(186, any, 8, 0, 1, 0), 0x91D02000));
+    for (uint32_t one = 1; one != 0; one <<= 1) {
+        CHECK(is_word(written(2, one, 8, 0, 0, 1), 0x30800001) && is_word(written(128, 0, 1, 2, one, 3), 0x8200A003));
+        CHECK(is_word(written(165, 0, 2, 1, one, 7), 0x85286007));
+        CHECK(is_word(written(186, 0, 8, 1, one, 99), 0x91D06063));
+    }
+}
+
+/* How many of the bits from low to 12 make a word unknown, each alone. */
+static int strays(uint32_t word, int low)
+{
+    int count = 0;
+    for (int bit = low; bit < 13; bit++)
+        count += is_unknown(word | 1u << bit);
+    return count;
+}
+
+/* Each unused bit, and none of those of a constant of thirteen. */
+static void unused_bits(void)
+{
+    for (int i = 0; i < FORMS; i++) {
+        uint32_t form = known_words[i].six[0];
+        if (form < 128)
+            continue;
+        uint32_t bare = form / 64 << 30 | form % 64 << 19, constant = bare | 1u << 13;
+        int low = form == 186 ? 7 : form >= 165 && form <= 167 ? 5 : 13;
+        CHECK(!is_unknown(bare) && strays(bare, 5) == 8 && strays(bare, 0) == 8);
+        CHECK(!is_unknown(constant) && strays(constant, low) == 13 - low && strays(constant, 0) == 13 - low);
+        CHECK(is_unknown(bare | 1u << 29) == (form == 186) && is_unknown(constant | 1u << 29) == (form == 186));
+    }
+}
+
+/* xor %g1, %g2, %g3 and jmpl %o7, %g0, each with bit 5 set, where the cores and the translator read them. */
+static void unused_bits_elsewhere(void)
+{
+    static const uint32_t words[] = { 0x86184002 | 1u << 5, 0x81C3C000 | 1u << 5 };
+    for (uint32_t i = 0; i < 2; i++) {
+        uint8_t image[8], list[12], table[32], made[48], entry[4] = { 0 }, state[PIJORREL_NEW_STATE] = { 0 };
+        struct guarded g = fresh(0);
+        put_number(image, 0, words[i]);
+        put_number(image, 1, words[i]);
+        struct pijorrel_end end = pijorrel_old_run(image, 4, 0, 0, g.state, NULL, 0, 1);
+        CHECK(end.end == 3 && end.number == 0);
+        put_number(list, 0, 1 + 2 * i); /* kind 1, or 3 for the jmpl */
+        put_number(list, 1, words[i]);
+        put_number(list, 2, 0);
+        end = pijorrel_new_run(list, 12, NULL, 0, 0, 4, 0, state, NULL, 0, 1);
+        CHECK(end.end == 7 && end.number == 0);
+        put_number(image, 0, 0x81C3C000); /* jmpl %o7, %g0: the word in its delay slot is illegal, and no transfer */
+        struct pijorrel_answer a = pijorrel_translate(image, 8, 0, entry, 4, table, 32, made, 48);
+        CHECK(a.number == 0 && a.first == 2 && a.second == 3);
+        CHECK(number_at(made, 6) == 7 && number_at(made, 7) == 3 && number_at(made, 8) == 4);
+    }
+}
+
 int main(void)
 {
     couple_of_branches();
@@ -266,6 +475,13 @@ int main(void)
     fall_through_first();
     call_returns_a_record();
     first_bad_entry();
+    each_form();
+    no_other_form();
+    each_field();
+    highest_unfit();
+    numbers_beside();
+    unused_bits();
+    unused_bits_elsewhere();
     printf("%d of %d checks of the C interface hold\n", checks - failures, checks);
     return failures != 0;
 }

@@ -1,4 +1,4 @@
-"""Random programs of the words that the old core knows.
+"""Random programs of the words that the old core knows: those with an unused bit set are none to it.
 
 A program is a prologue that gives every register a value and sets the flags, a body of random words, and a
 closing that loads each word of the data into a register and leaves by the exit trap. However a run winds through

@@ -39,6 +39,16 @@ static void *run_new(void *argument)
     return argument;
 }
 
+/* Each form with all other numbers 0, and the word that comes of it. */
+static void *read_and_write(void *argument)
+{
+    for (int form = 0; form < 256; form++) {
+        uint8_t instruction[PIJORREL_INSTRUCTION] = { 0, 0, 0, (uint8_t)form };
+        pijorrel_read(pijorrel_write(instruction).value, instruction);
+    }
+    return argument;
+}
+
 static size_t stack_of(void *(*work)(void *), void *argument)
 {
     static uint8_t stack[STACK] __attribute__((aligned(4096)));
@@ -70,7 +80,8 @@ static void make_image(void)
 int main(void)
 {
     static const struct { const char *name; void *(*work)(void *); size_t bound; } calls[] = {
-        { "translate", translate, 34 * 1024 }, { "old core", run_old, 1024 }, { "new core", run_new, 1024 }
+        { "translate", translate, 34 * 1024 }, { "old core", run_old, 1024 }, { "new core", run_new, 1024 },
+        { "reader and writer", read_and_write, 1024 }
     };
     struct pijorrel_answer answer = { 9, 0, 0 };
     int failed = 0;

@@ -5,13 +5,14 @@ use lib.ListN.{replicate}
 use Rattle.cases.specs.declared.Core.{Core}
 use Rattle.cases.specs.declared.Core.the-variants.{Old, New, Trail}
 use Rattle.cases.specs.declared.Kind.{Kind}
-use Rattle.cases.specs.declared.Kind.the-variants.{Runs, Translation, Listing}
+use Rattle.cases.specs.declared.Kind.the-variants.{Runs, Translation, Listing, Words}
 use Rattle.cases.specs.declared.file.Found.{Found}
 use Rattle.cases.specs.Files.{numberIn, Checked}
 use Rattle.cases.specs.Runs.{oldFound, newFound}
 use Rattle.cases.specs.Trails.{trailFound}
 use Rattle.cases.specs.Translations.{translationFound}
 use Rattle.cases.specs.Listings.{listedFound}
+use Rattle.cases.specs.Words.{wordFound}
 
 -- how far into a core's case the number stands that counts its data
 unfoldable pub sizeAt : Core → ℕ
@@ -34,3 +35,4 @@ unfoldable pub found : Kind → List ℕ → ℕ → Found
 found (Runs core) bytes at = ran core bytes at
 found Translation bytes at = translationFound bytes at
 found Listing bytes at = listedFound bytes at
+found Words bytes at = wordFound bytes at

@@ -3,4 +3,5 @@ pub mod Runs
 pub mod Trails
 pub mod Translations
 pub mod Listings
+pub mod Words
 pub mod Kinds

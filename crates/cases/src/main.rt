@@ -13,6 +13,7 @@ mod old;
 mod records;
 mod trail;
 mod translation;
+mod word;
 
 // The most bytes of a file that are read.
 const LARGEST: usize = 1048576;
@@ -29,6 +30,7 @@ enum Kind {
     Runs(Core),
     Translation,
     Listing,
+    Words,
 }
 
 fn say(text: &[u8]) {
@@ -88,6 +90,7 @@ fn check(kind: Kind, bytes: &[u8], at: usize) -> Found
         Kind::Runs(core) => check_run(core, bytes, at),
         Kind::Translation => translation::check(bytes, at),
         Kind::Listing => listed::check(bytes, at),
+        Kind::Words => word::check(bytes, at),
     }
 }
 
@@ -138,7 +141,9 @@ fn run(kind: Kind, name: &[u8], buffer: &mut [u8; LARGEST]) {
 fn main() {
     let mut buffer = [0u8; LARGEST];
     run(Kind::Runs(Core::Old), b"old_core.bin", &mut buffer);
+    run(Kind::Runs(Core::Old), b"old_core_base.bin", &mut buffer);
     run(Kind::Runs(Core::New), b"new_core.bin", &mut buffer);
+    run(Kind::Runs(Core::New), b"new_core_base.bin", &mut buffer);
     run_with(
         Kind::Runs(Core::Trail),
         b"trails.bin",
@@ -149,4 +154,5 @@ fn main() {
     run(Kind::Translation, b"translate.bin", &mut buffer);
     run(Kind::Translation, b"edges.bin", &mut buffer);
     run(Kind::Listing, b"listings.bin", &mut buffer);
+    run(Kind::Words, b"words.bin", &mut buffer);
 }

@@ -13,6 +13,7 @@ use Rattle.words.specs.Reader.{bits, bitSet, operandOf, rows0, format0Of, rows2
 use Rattle.numbers.specs.Choice.{pick}
 use Rattle.numbers.specs.Number.{Below, plus, minus, signed, numberAt}
 use Rattle.numbers.proofs.Choice.{either, found-passes}
+use Rattle.words.proofs.Strict.{left-strictly}
 use Rattle.numbers.proofs.Number.{length-put}
 use Rattle.numbers.proofs.Bounds.{below-get, below-set, number-lt, put-below, plus-lt, minus-lt, extended-lt}
 use Rattle.words.specs.Conditions.{holdsOf, bitOf, nzvcOf}
@@ -21,13 +22,15 @@ use Rattle.words.specs.declared.Width.the-variants.{Byte, Half, Word}
 use Rattle.words.specs.declared.Operand.{Operand}
 use Rattle.words.specs.declared.Operand.the-variants.{Register, Constant}
 use Rattle.words.specs.declared.Operation.{Operation}
-use Rattle.words.specs.declared.Operation.the-variants.{Add, And, Or, Xor, Sub, Andn, Orn, Xnor, Addx, Subx, Sll, Srl, Sra}
+use Rattle.words.specs.declared.Operation.the-variants.{Add, And, Or, Xor, Sub, Andn, Orn, Xnor, Addx, Subx}
+use Rattle.words.specs.declared.ShiftOperation.{ShiftOperation}
+use Rattle.words.specs.declared.ShiftOperation.the-variants.{Sll, Srl, Sra}
 use Rattle.words.specs.declared.Instruction.{Instruction}
-use Rattle.words.specs.declared.Instruction.the-variants.{Illegal, Call, Sethi, Bicc, Arithmetic, Jmpl, Ticc, Load, Store}
+use Rattle.words.specs.declared.Instruction.the-variants.{Illegal, Call, Sethi, Bicc, Arithmetic, Jmpl, Ticc, Load, Store, Shift}
 use Rattle.machine.specs.Ends.{Ending, ending, Next, go, halt, within}
 use Rattle.machine.specs.Registers.{registerOf, putRegister, valueOf, addressOf}
-use Rattle.machine.specs.Arithmetic.{top, Outcome, outcome, sumOf, differenceOf, logicOf, flipped, shiftedLeft, shiftedRight, shiftedSigned, outcomeOf, carryOf, arithmeticOf}
-use Rattle.machine.specs.DataArea.{sizeOf, valueAt, putValue, loadedAt, access, loadOf, storeOf}
+use Rattle.machine.specs.Arithmetic.{top, Outcome, outcome, sumOf, differenceOf, logicOf, flipped, shiftedLeft, shiftedRight, shiftedSigned, shiftOf, outcomeOf, carryOf, arithmeticOf}
+use Rattle.machine.specs.DataArea.{widthOf, signOf, sizeOf, valueAt, putValue, loadedAt, access, loadOf, storeOf}
 use Rattle.machine.specs.Effect.{Machine, trapOf, withRegisters, withArea, effectOf}
 use Rattle.machine.proofs.Zero.{Zero, put-zero}
 
@@ -66,8 +69,9 @@ fitsIn (Bicc cond annul disp) = true
 fitsIn (Arithmetic o cc rd rs1 x) = fits x
 fitsIn (Jmpl rd rs1 x) = fits x
 fitsIn (Ticc cond rs1 x) = fits x
-fitsIn (Load w sign rd rs1 x) = fits x
+fitsIn (Load o rd rs1 x) = fits x
 fitsIn (Store w rd rs1 x) = fits x
+fitsIn (Shift o rd rs1 x) = fits x
 
 operand-fits : (word : ℕ) → fits (operandOf word) ≡ true
 unfolding operandOf bits
@@ -87,7 +91,7 @@ format-fits (suc (suc (suc n))) word =
 
 pub word-fits : (word : ℕ) → fitsIn (instructionOf word) ≡ true
 unfolding instructionOf
-word-fits word = format-fits (bits word 30 2) word
+word-fits word = left-strictly (λ (i : Instruction). fitsIn i ≡ true) word _ refl (format-fits (bits word 30 2) word)
 
 -- ---------------------------------------------------------------- registers
 pub put-length : (rs : List ℕ) (i v : ℕ) → length (putRegister rs i v) ≡ length rs
@@ -161,7 +165,7 @@ unfolding differenceOf
 small-difference a b k = small (minus (minus a b) k) _ _ (minus-lt (minus a b) k)
 
 small-outcome : (o : Operation) (carry a b : ℕ) → a < 2 ^ 32 → b < 2 ^ 32 → Small (outcomeOf o carry a b)
-unfolding outcomeOf shiftedLeft
+unfolding outcomeOf
 small-outcome Add carry a b h i = small-sum a b 0
 small-outcome And carry a b h i = small-logic _ (and-lt 32 a b h i)
 small-outcome Or carry a b h i = small-logic _ (or-lt 32 a b h i)
@@ -172,9 +176,12 @@ small-outcome Orn carry a b h i = small-logic _ (or-lt 32 a (flipped b) h (flipp
 small-outcome Xnor carry a b h i = small-logic _ (xor-lt 32 a (flipped b) h (flipped-lt b))
 small-outcome Addx carry a b h i = small-sum a b carry
 small-outcome Subx carry a b h i = small-difference a b carry
-small-outcome Sll carry a b h i = small-logic (a * 2 ^ (b % 32) % 2 ^ 32) (omega arith)
-small-outcome Srl carry a b h i = small-logic _ (right-lt a b h)
-small-outcome Sra carry a b h i = small-logic _ (signed-lt a b h)
+
+shift-lt : (o : ShiftOperation) (a b : ℕ) → a < 2 ^ 32 → shiftOf o a b < 2 ^ 32
+unfolding shiftOf shiftedLeft
+shift-lt Sll a b h = omega arith
+shift-lt Srl a b h = right-lt a b h
+shift-lt Sra a b h = signed-lt a b h
 
 -- ---------------------------------------------------------------- loads and stores
 loaded-lt : (w : Width) (sign : Bool) (area : List ℕ) (at : ℕ) → Below 256 area → loadedAt w sign area at < 2 ^ 32
@@ -238,7 +245,9 @@ effects-sound n db (Arithmetic o cc rd rs1 x) m f s =
     }
 effects-sound n db (Jmpl rd rs1 x) m f s = s
 effects-sound n db (Ticc cond rs1 x) m f s = leaves-within (λ u. Sound n m) (Sound n) (λ u. m) (λ u p. p) _ (trap-leaves (Sound n m) (m .flags) (m .registers) cond rs1 x s)
-effects-sound n db (Load w sign rd rs1 x) m f s =
+effects-sound n db (Load o rd rs1 x) m f s =
+    let w = widthOf o in
+    let sign = signOf o in
     let t = addressOf (m .registers) rs1 x in
     leaves-within (λ rs. Sound n (withRegisters m rs)) (Sound n) (withRegisters m) (λ rs p. p) _
     (access-leaves (λ rs. Sound n (withRegisters m rs)) w db t (m .area) (putRegister (m .registers) rd (loadedAt w sign (m .area) (minus t db)))
@@ -257,3 +266,6 @@ effects-sound n db (Store w rd rs1 x) m f s =
       area = stored-below w (m .area) (minus t db) (registerOf (m .registers) rd) (s .area);
       sized = stored-length w (m .area) (minus t db) (registerOf (m .registers) rd) ∙ s .sized;
     }))
+effects-sound n db (Shift o rd rs1 x) m f s =
+    put-sound n m rd (shiftOf o (registerOf (m .registers) rs1) (valueOf (m .registers) x)) s
+    (shift-lt o (registerOf (m .registers) rs1) (valueOf (m .registers) x) (register-lt n m rs1 s))

@@ -8,12 +8,12 @@ use Rattle.words.specs.declared.Operand.{Operand}
 use Rattle.words.specs.Conditions.{holdsOf}
 use Rattle.machine.proofs.Ends.{EndsWell, within-ends, going-of, over-of}
 use Rattle.machine.specs.Registers.{registerOf, putRegister, addressOf}
-use Rattle.machine.specs.DataArea.{sizeOf, putValue, loadedAt, access, loadOf, storeOf}
+use Rattle.machine.specs.DataArea.{widthOf, signOf, sizeOf, putValue, loadedAt, access, loadOf, storeOf}
 use lib.ListN.{length}
 use lib.Dec.{eqb, leb}
 use native.Mathlib.Omega.{arith}
 use mathlib.Core.Bool.{Bool, false}
-use Rattle.words.specs.declared.Instruction.the-variants.{Illegal, Call, Sethi, Bicc, Arithmetic, Jmpl, Ticc, Load, Store}
+use Rattle.words.specs.declared.Instruction.the-variants.{Illegal, Call, Sethi, Bicc, Arithmetic, Jmpl, Ticc, Load, Store, Shift}
 use Rattle.words.specs.declared.Instruction.{Instruction}
 use Rattle.machine.specs.Ends.{live, settle, ending, go, halt, endingOf, isGoing, within, left, Ending, Next, state}
 use Rattle.machine.specs.Effect.{effectOf, Machine, trapOf, withRegisters, withArea, machine}
@@ -37,8 +37,9 @@ idle db (Jmpl rd rs1 x) m k = refl
 idle db (Sethi rd imm) m k = absurd (miss transfers 2 tt k)
 idle db (Arithmetic o cc rd rs1 x) m k = absurd (miss transfers 4 tt k)
 idle db (Ticc cond rs1 x) m k = absurd (miss transfers 6 tt k)
-idle db (Load w sign rd rs1 x) m k = absurd (miss transfers 7 tt k)
+idle db (Load o rd rs1 x) m k = absurd (miss transfers 7 tt k)
 idle db (Store w rd rs1 x) m k = absurd (miss transfers 8 tt k)
+idle db (Shift o rd rs1 x) m k = absurd (miss transfers 9 tt k)
 
 -- 01: "Alignment is tested before fit": a misaligned address ends the run with 4, whether the access fits or not
 pub misaligned-first : (w : Width) (db t : ℕ) (area made : List ℕ) → eqb (t % sizeOf w) 0 ≡ false → access w db t area made ≡ halt (ending 4 t)
@@ -74,10 +75,11 @@ effects-end db (Jmpl rd rs1 x) m = tt
 effects-end db (Sethi rd imm) m = tt
 effects-end db (Arithmetic o cc rd rs1 x) m = tt
 effects-end db (Ticc cond rs1 x) m = within-ends (λ u. m) _ (trap-ends (m .flags) (m .registers) cond rs1 x)
-effects-end db (Load w sign rd rs1 x) m =
-    within-ends (withRegisters m) _ (load-ends w sign db (m .area) rd (addressOf (m .registers) rs1 x) (m .registers))
+effects-end db (Load o rd rs1 x) m =
+    within-ends (withRegisters m) _ (load-ends (widthOf o) (signOf o) db (m .area) rd (addressOf (m .registers) rs1 x) (m .registers))
 effects-end db (Store w rd rs1 x) m =
     within-ends (withArea m) _ (store-ends w db (registerOf (m .registers) rd) (addressOf (m .registers) rs1 x) (m .area))
+effects-end db (Shift o rd rs1 x) m = tt
 
 -- the parts of equal states
 same-ending : {S : Type 0} {x y : S} {d e : Ending} → state x d ≡ state y e → d ≡ e

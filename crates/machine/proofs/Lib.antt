@@ -1,6 +1,5 @@
 pub mod Ends
 pub mod FlagsExact
-pub mod Loads
 pub mod Effects
 pub mod Zero
 pub mod Bounds

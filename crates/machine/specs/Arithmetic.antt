@@ -9,7 +9,9 @@ use Rattle.numbers.specs.Number.{plus, minus}
 use Rattle.words.specs.Conditions.{nzvcOf}
 use Rattle.words.specs.declared.Operand.{Operand}
 use Rattle.words.specs.declared.Operation.{Operation}
-use Rattle.words.specs.declared.Operation.the-variants.{Add, And, Or, Xor, Sub, Andn, Orn, Xnor, Addx, Subx, Sll, Srl, Sra}
+use Rattle.words.specs.declared.Operation.the-variants.{Add, And, Or, Xor, Sub, Andn, Orn, Xnor, Addx, Subx}
+use Rattle.words.specs.declared.ShiftOperation.{ShiftOperation}
+use Rattle.words.specs.declared.ShiftOperation.the-variants.{Sll, Srl, Sra}
 use Rattle.machine.specs.Registers.{registerOf, putRegister, valueOf}
 
 -- bit 31
@@ -78,9 +80,11 @@ outcomeOf Orn carry a b = logicOf (bitOr a (flipped b))
 outcomeOf Xnor carry a b = logicOf (bitXor a (flipped b))
 outcomeOf Addx carry a b = sumOf a b carry
 outcomeOf Subx carry a b = differenceOf a b carry
-outcomeOf Sll carry a b = logicOf (shiftedLeft a b)
-outcomeOf Srl carry a b = logicOf (shiftedRight a b)
-outcomeOf Sra carry a b = logicOf (shiftedSigned a b)
+
+unfoldable pub shiftOf : ShiftOperation → ℕ → ℕ → ℕ
+shiftOf Sll a b = shiftedLeft a b
+shiftOf Srl a b = shiftedRight a b
+shiftOf Sra a b = shiftedSigned a b
 
 -- C, as a number
 unfoldable pub carryOf : ℕ → ℕ

@@ -1,11 +1,13 @@
 -- 01, The old core: "Data is one lent area .. at a data base, big-endian".
 use Prim.Native.Nat.{ℕ, _+_, _*_, _/_, _%_}
-use mathlib.Core.Bool.{Bool}
+use mathlib.Core.Bool.{Bool, true, false}
 use mathlib.Core.List.{List}
 use lib.Dec.{leb, eqb}
 use lib.ListN.{length, getD, set}
 use Rattle.numbers.specs.Choice.{pick}
 use Rattle.numbers.specs.Number.{minus, signed, numberAt, putNumber}
+use Rattle.words.specs.declared.LoadOperation.{LoadOperation}
+use Rattle.words.specs.declared.LoadOperation.the-variants.{Ld, Ldub, Lduh, Ldsb, Ldsh}
 use Rattle.words.specs.declared.Width.{Width}
 use Rattle.words.specs.declared.Width.the-variants.{Byte, Half, Word}
 use Rattle.machine.specs.Ends.{ending, Next, go, halt}
@@ -29,7 +31,22 @@ putValue Byte area at v = set area at (v % 256)
 putValue Half area at v = set (set area at (v / 256 % 256)) (at + 1) (v % 256)
 putValue Word area at v = putNumber area at v
 
--- what a load gives: ldsb and ldsh extend the sign
+-- what each load moves, and whether it extends the sign
+unfoldable pub widthOf : LoadOperation → Width
+widthOf Ld = Word
+widthOf Ldub = Byte
+widthOf Lduh = Half
+widthOf Ldsb = Byte
+widthOf Ldsh = Half
+
+unfoldable pub signOf : LoadOperation → Bool
+signOf Ld = false
+signOf Ldub = false
+signOf Lduh = false
+signOf Ldsb = true
+signOf Ldsh = true
+
+-- what a load gives
 unfoldable pub loadedAt : Width → Bool → List ℕ → ℕ → ℕ
 loadedAt w sign area at = pick sign (signed (8 * sizeOf w) (valueAt w area at)) (valueAt w area at)
 

@@ -5,11 +5,11 @@ use Rattle.numbers.specs.Choice.{pick}
 use Rattle.words.specs.Conditions.{holdsOf}
 use Rattle.words.specs.declared.Operand.{Operand}
 use Rattle.words.specs.declared.Instruction.{Instruction}
-use Rattle.words.specs.declared.Instruction.the-variants.{Illegal, Call, Sethi, Bicc, Arithmetic, Jmpl, Ticc, Load, Store}
+use Rattle.words.specs.declared.Instruction.the-variants.{Illegal, Call, Sethi, Bicc, Arithmetic, Jmpl, Ticc, Load, Store, Shift}
 use Rattle.machine.specs.Ends.{ending, Next, go, halt, within}
-use Rattle.machine.specs.Registers.{registerOf, putRegister, addressOf}
-use Rattle.machine.specs.Arithmetic.{After, arithmeticOf}
-use Rattle.machine.specs.DataArea.{loadOf, storeOf}
+use Rattle.machine.specs.Registers.{registerOf, putRegister, valueOf, addressOf}
+use Rattle.machine.specs.Arithmetic.{After, shiftOf, arithmeticOf}
+use Rattle.machine.specs.DataArea.{widthOf, signOf, loadOf, storeOf}
 
 -- what a trail's entry shows beside the address
 pub record Machine : Type 0 where
@@ -45,7 +45,8 @@ effectOf db (Jmpl rd rs1 x) m = go m
 effectOf db (Sethi rd imm) m = go (withRegisters m (putRegister (m .registers) rd (imm * 2 ^ 10 % 2 ^ 32)))
 effectOf db (Arithmetic o cc rd rs1 x) m = go (withAfter m (arithmeticOf (m .flags) (m .registers) o cc rd rs1 x))
 effectOf db (Ticc cond rs1 x) m = within (λ u. m) (trapOf (m .flags) (m .registers) cond rs1 x)
-effectOf db (Load w sign rd rs1 x) m =
-    within (withRegisters m) (loadOf w sign db (m .area) rd (addressOf (m .registers) rs1 x) (m .registers))
+effectOf db (Load o rd rs1 x) m =
+    within (withRegisters m) (loadOf (widthOf o) (signOf o) db (m .area) rd (addressOf (m .registers) rs1 x) (m .registers))
 effectOf db (Store w rd rs1 x) m =
     within (withArea m) (storeOf w db (registerOf (m .registers) rd) (addressOf (m .registers) rs1 x) (m .area))
+effectOf db (Shift o rd rs1 x) m = go (withRegisters m (putRegister (m .registers) rd (shiftOf o (registerOf (m .registers) rs1) (valueOf (m .registers) x))))

@@ -3,8 +3,8 @@ ghost use mathlib.Core.Path.{_≡_};
 ghost use Prim.Native.Nat.{_-_, _%_};
 ghost use lib.Dec.{eqb};
 ghost use Rattle.words.specs.Conditions.{nzvcOf};
-ghost use Rattle.machine.specs.Registers.{registerOf, valueOf};
-ghost use Rattle.machine.specs.Arithmetic.{top, sumOverflow, sumCarry, differenceOverflow, differenceCarry, shiftedLeft, shiftedRight, shiftedSigned, carryOf, sumOf, differenceOf, logicOf, written, after, arithmeticOf};
+ghost use Rattle.machine.specs.Registers.{registerOf, putRegister, valueOf};
+ghost use Rattle.machine.specs.Arithmetic.{top, sumOverflow, sumCarry, differenceOverflow, differenceCarry, shiftedLeft, shiftedRight, shiftedSigned, shiftOf, carryOf, sumOf, differenceOf, logicOf, written, after, arithmeticOf};
 use crate::Flags;
 use crate::bit;
 use crate::registers::put;
@@ -12,6 +12,7 @@ use crate::registers::reg;
 use crate::registers::value;
 use words::Operand;
 use words::Operation;
+use words::ShiftOperation;
 
 fn top_bit(x: u32) -> bool
     ensures { λ r. ⌜ r ≡ top x ⌝ }
@@ -198,8 +199,16 @@ pub fn operate(
         Operation::Xnor => logic_word(f, regs, cc, rd, reg(regs, rs1) ^ complement(value(regs, x))),
         Operation::Addx => add_word(f, regs, carry(f), cc, rd, rs1, x),
         Operation::Subx => subtract_word(f, regs, carry(f), cc, rd, rs1, x),
-        Operation::Sll => logic_word(f, regs, cc, rd, sll(reg(regs, rs1), value(regs, x))),
-        Operation::Srl => logic_word(f, regs, cc, rd, srl(reg(regs, rs1), value(regs, x))),
-        Operation::Sra => logic_word(f, regs, cc, rd, sra(reg(regs, rs1), value(regs, x))),
+    }
+}
+
+// A shift sets no flag.
+pub fn shift(regs: &mut [u32; 32], o: ShiftOperation, rd: u32, rs1: u32, x: Operand)
+    ensures { λ _. ⌜ now (regs .exit) ≡ putRegister (now (regs .entry)) rd (shiftOf o (registerOf (now (regs .entry)) rs1) (valueOf (now (regs .entry)) x)) ⌝ }
+{
+    match o {
+        ShiftOperation::Sll => put(regs, rd, sll(reg(regs, rs1), value(regs, x))),
+        ShiftOperation::Srl => put(regs, rd, srl(reg(regs, rs1), value(regs, x))),
+        ShiftOperation::Sra => put(regs, rd, sra(reg(regs, rs1), value(regs, x))),
     }
 }

@@ -8,11 +8,12 @@ ghost use Rattle.numbers.specs.Number.{signed};
 ghost use Rattle.words.specs.declared.Width.the-variants.{Byte, Half, Word};
 ghost use Rattle.machine.specs.Ends.{left, settle};
 ghost use Rattle.machine.specs.Registers.{registerOf, addressOf};
-ghost use Rattle.machine.specs.DataArea.{loadOf, storeOf, valueAt, putValue};
+ghost use Rattle.machine.specs.DataArea.{widthOf, signOf, loadOf, storeOf, valueAt, putValue};
 use crate::End;
 use crate::registers::address;
 use crate::registers::put;
 use crate::registers::reg;
+use words::LoadOperation;
 use words::Operand;
 use words::Width;
 
@@ -139,8 +140,7 @@ fn store_byte(db: u32, v: u32, area: &mut [u8], t: u32) -> End
 
 // A function for each width: the width is matched before a register is read.
 pub fn load(
-    w: Width,
-    sign: bool,
+    o: LoadOperation,
     db: u32,
     regs: &mut [u32; 32],
     area: &[u8],
@@ -148,12 +148,14 @@ pub fn load(
     rs1: u32,
     x: Operand,
 ) -> End
-    ensures { λ r. ⌜ left (now (regs .exit)) r ≡ settle (now (regs .entry)) (loadOf w sign db (now (area .entry)) rd (addressOf (now (regs .entry)) rs1 x) (now (regs .entry))) ⌝ }
+    ensures { λ r. ⌜ left (now (regs .exit)) r ≡ settle (now (regs .entry)) (loadOf (widthOf o) (signOf o) db (now (area .entry)) rd (addressOf (now (regs .entry)) rs1 x) (now (regs .entry))) ⌝ }
 {
-    match w {
-        Width::Byte => load_byte(sign, db, regs, area, rd, address(regs, rs1, x)),
-        Width::Half => load_half(sign, db, regs, area, rd, address(regs, rs1, x)),
-        Width::Word => load_word(db, regs, area, rd, address(regs, rs1, x)),
+    match o {
+        LoadOperation::Ld => load_word(db, regs, area, rd, address(regs, rs1, x)),
+        LoadOperation::Ldub => load_byte(false, db, regs, area, rd, address(regs, rs1, x)),
+        LoadOperation::Lduh => load_half(false, db, regs, area, rd, address(regs, rs1, x)),
+        LoadOperation::Ldsb => load_byte(true, db, regs, area, rd, address(regs, rs1, x)),
+        LoadOperation::Ldsh => load_half(true, db, regs, area, rd, address(regs, rs1, x)),
     }
 }
 

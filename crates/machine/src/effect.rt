@@ -6,6 +6,7 @@ ghost use Rattle.machine.specs.Effect.{machine, trapOf, effectOf};
 use crate::End;
 use crate::Flags;
 use crate::arithmetic::operate;
+use crate::arithmetic::shift;
 use crate::data_area::load;
 use crate::data_area::store;
 use crate::registers::address;
@@ -60,13 +61,20 @@ pub fn perform(i: Instruction, db: u32, regs: &mut [u32; 32], f: Flags, area: &m
             let e = trap(f, regs, cond, rs1, x);
             Effect { flags: f, end: e }
         }
-        Instruction::Load(w, sign, rd, rs1, x) => {
-            let e = load(w, sign, db, regs, area, rd, rs1, x);
+        Instruction::Load(o, rd, rs1, x) => {
+            let e = load(o, db, regs, area, rd, rs1, x);
             Effect { flags: f, end: e }
         }
         Instruction::Store(w, rd, rs1, x) => {
             let e = store(w, db, regs, area, rd, rs1, x);
             Effect { flags: f, end: e }
+        }
+        Instruction::Shift(o, rd, rs1, x) => {
+            shift(regs, o, rd, rs1, x);
+            Effect {
+                flags: f,
+                end: End::Going,
+            }
         }
         _ => Effect {
             flags: f,

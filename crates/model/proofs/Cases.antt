@@ -4,7 +4,7 @@ use Rattle.model.specs.Walk.{grow, grown, tested, handle, walk, placesOf
 use Rattle.model.specs.Records.{numbersIn, rowAt, rowsIn, recordOf, recordAt, recordsIn, biccGroup, groupOf, heldGroupOf, groupAt, heldGroupAt, group, past, numbered, put, tableNumbers, recordNumbers, recordsNumbers, first, rowsFrom, recordsFrom, rowsOf, recordsOf}
 use Rattle.model.specs.Places.{kindOf, nextOf, placeAt, samePlace, member, whichOf, biccNames, returnNames, names, namesAt, unimpIn, unimpBehind, followers, idleBicc, mayBeHeld, mayBeHeldAt, allowed, plains}
 use Rattle.numbers.specs.Number.{plus, minus, signed, numberAt, bytesOf, numbersOf, upTo}
-use Rattle.words.specs.Reader.{bits, bitSet, operandOf, format0Of, format2Of, format3Of, byFormat, instructionOf, isUnimp}
+use Rattle.words.specs.Reader.{bits, bitSet, operandOf, format0Of, format2Of, format3Of, setFrom, registerStrays, unusedSet, strictly, byFormat, instructionOf, isUnimp}
 use Rattle.words.specs.Conditions.{rows, bitAt, holdsOf, bitOf, nzvcOf}
 use Rattle.machine.proofs.Opened.{machine-open}
 use Rattle.model.specs.Cases.{over, start, shown, endOf, ended, newEnded, stepAt, cases, noCase, Row, bytesBack, given, answered, listedAt, listed, entriesTold, told, begins, oldTold, newTold}
@@ -54,7 +54,7 @@ each-row (r ∷ rs) e (suc i) h = each-row rs (both (sameList (r .got) (r .want)
 -- ---------------------------------------------------------------- the definitions, opened layer by layer
 -- numbers, and the words that they read as
 words-open : Unit {0}
-unfolding plus minus signed numberAt bytesOf numbersOf upTo bits bitSet operandOf format0Of format2Of format3Of byFormat instructionOf isUnimp rows bitAt holdsOf bitOf nzvcOf
+unfolding plus minus signed numberAt bytesOf numbersOf upTo bits bitSet operandOf format0Of format2Of format3Of setFrom registerStrays unusedSet strictly byFormat instructionOf isUnimp rows bitAt holdsOf bitOf nzvcOf
 words-open = tt
 
 -- the old core

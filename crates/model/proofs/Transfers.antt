@@ -11,12 +11,13 @@ use borrow.Author.Tests.{eqb-true, le-leb}
 use Rattle.numbers.specs.Choice.{pick}
 use Rattle.numbers.specs.Number.{minus, numberAt}
 use Rattle.numbers.proofs.Choice.{found-passes}
+use Rattle.words.proofs.Strict.{left-strictly}
 use Rattle.words.specs.Conditions.{holdsOf}
 use Rattle.words.proofs.Conditions.{conditions-all}
 use Rattle.words.specs.Reader.{bits, format0Of, format2Of, format3Of, byFormat, instructionOf, rows0, rows2, none2, rows3, none3, operandOf}
 use Rattle.words.specs.declared.Operand.{Operand}
 use Rattle.words.specs.declared.Instruction.{Instruction}
-use Rattle.words.specs.declared.Instruction.the-variants.{Illegal, Call, Sethi, Bicc, Arithmetic, Jmpl, Ticc, Load, Store}
+use Rattle.words.specs.declared.Instruction.the-variants.{Illegal, Call, Sethi, Bicc, Arithmetic, Jmpl, Ticc, Load, Store, Shift}
 use Rattle.machine.specs.Ends.{Ending, ending, go, halt, within}
 use Rattle.machine.specs.Registers.{addressOf}
 use Rattle.machine.specs.Effect.{Machine, effectOf, trapOf}
@@ -58,8 +59,9 @@ trapEnd (Bicc cond annul disp) m = ending 0 0
 trapEnd (Arithmetic o cc rd rs1 x) m = ending 0 0
 trapEnd (Jmpl rd rs1 x) m = ending 0 0
 trapEnd (Ticc cond rs1 x) m = ending 1 (addressOf (m .registers) rs1 x % 128)
-trapEnd (Load w sign rd rs1 x) m = ending 0 0
+trapEnd (Load o rd rs1 x) m = ending 0 0
 trapEnd (Store w rd rs1 x) m = ending 0 0
+trapEnd (Shift o rd rs1 x) m = ending 0 0
 
 pub trap-halts : (db : ℕ) (i : Instruction) (m : Machine) → transferOf i ≡ trap → effectOf db i m ≡ halt (trapEnd i m)
 unfolding transferOf
@@ -74,8 +76,9 @@ trap-halts db (Ticc cond rs1 x) m e = taken (eqb cond 8) refl e
     taken : (t : Bool) → eqb cond 8 ≡ t → pick t trap straight ≡ trap → effectOf db (Ticc cond rs1 x) m ≡ halt (ending 1 (addressOf (m .registers) rs1 x % 128))
     taken true q k = always-taken db cond rs1 x m (eqb-true cond 8 q)
     taken false q k = apart straight trap (λ z. omega arith) k
-trap-halts db (Load w sign rd rs1 x) m e = apart straight trap (λ q. omega arith) e
+trap-halts db (Load o rd rs1 x) m e = apart straight trap (λ q. omega arith) e
 trap-halts db (Store w rd rs1 x) m e = apart straight trap (λ q. omega arith) e
+trap-halts db (Shift o rd rs1 x) m e = apart straight trap (λ q. omega arith) e
 
 -- a Bicc 0 without annul does nothing
 pub idle-does : (db : ℕ) (i : Instruction) (m : Machine) (disp : ℕ) → transferOf i ≡ bicc 0 false disp → effectOf db i m ≡ go m
@@ -87,8 +90,9 @@ idle-does db (Bicc cond annul d) m disp e = refl
 idle-does db (Arithmetic o cc rd rs1 x) m disp e = apart straight (bicc 0 false disp) (λ q. omega arith) e
 idle-does db (Jmpl rd rs1 x) m disp e = refl
 idle-does db (Ticc cond rs1 x) m disp e = no-branch (eqb cond 8) 0 false disp e
-idle-does db (Load w sign rd rs1 x) m disp e = apart straight (bicc 0 false disp) (λ q. omega arith) e
+idle-does db (Load o rd rs1 x) m disp e = apart straight (bicc 0 false disp) (λ q. omega arith) e
 idle-does db (Store w rd rs1 x) m disp e = apart straight (bicc 0 false disp) (λ q. omega arith) e
+idle-does db (Shift o rd rs1 x) m disp e = apart straight (bicc 0 false disp) (λ q. omega arith) e
 
 -- a word's condition has four bits
 abbrev small : Instruction → Bool
@@ -99,8 +103,9 @@ small (Bicc cond annul disp) = leb cond 15
 small (Arithmetic o cc rd rs1 x) = true
 small (Jmpl rd rs1 x) = true
 small (Ticc cond rs1 x) = true
-small (Load w sign rd rs1 x) = true
+small (Load o rd rs1 x) = true
 small (Store w rd rs1 x) = true
+small (Shift o rd rs1 x) = true
 
 four-bits : (word : ℕ) → leb (bits word 25 4) 15 ≡ true
 unfolding bits
@@ -117,7 +122,7 @@ small-format (suc (suc (suc n))) word =
 
 small-word : (word : ℕ) → small (instructionOf word) ≡ true
 unfolding instructionOf
-small-word word = small-format (bits word 30 2) word
+small-word word = left-strictly (λ (i : Instruction). small i ≡ true) word _ refl (small-format (bits word 30 2) word)
 
 small-branch : (i : Instruction) (cond : ℕ) (annul : Bool) (disp : ℕ) → transferOf i ≡ bicc cond annul disp → small i ≡ true → leb cond 15 ≡ true
 unfolding transferOf
@@ -128,8 +133,9 @@ small-branch (Bicc c a d) cond annul disp e h = let z : cond ≡ c = cc in rw z 
 small-branch (Arithmetic o cc rd rs1 x) cond annul disp e h = apart straight (bicc cond annul disp) (λ q. omega arith) e
 small-branch (Jmpl rd rs1 x) cond annul disp e h = apart (jmpl rd rs1 x) (bicc cond annul disp) (λ q. omega arith) e
 small-branch (Ticc c rs1 x) cond annul disp e h = no-branch (eqb c 8) cond annul disp e
-small-branch (Load w sign rd rs1 x) cond annul disp e h = apart straight (bicc cond annul disp) (λ q. omega arith) e
+small-branch (Load o rd rs1 x) cond annul disp e h = apart straight (bicc cond annul disp) (λ q. omega arith) e
 small-branch (Store w rd rs1 x) cond annul disp e h = apart straight (bicc cond annul disp) (λ q. omega arith) e
+small-branch (Shift o rd rs1 x) cond annul disp e h = apart straight (bicc cond annul disp) (λ q. omega arith) e
 
 pub small-condition : (word cond : ℕ) (annul : Bool) (disp : ℕ) → transferOf (instructionOf word) ≡ bicc cond annul disp → leb cond 15 ≡ true
 small-condition word cond annul disp e = small-branch (instructionOf word) cond annul disp e (small-word word)

@@ -366,6 +366,31 @@ cases =
     -- a refusal 4 that only p + 12 leads to
     ∷ row 0 (answered (forbiddenPast 12) 8192 12288) (4 ∷ 16 ∷ 0 ∷ [])
     ∷ row 0 (answered (forbiddenPast 0x00400000) 8192 12288) (0 ∷ 4 ∷ 6 ∷ [])
+    -- 02, N2: "a word with an unused bit set as illegal: bits 12 to 5 when the second operand is a register", where a constant has them
+    ∷ row 0 (ended (run (over (0x82004002 ∷ [])) 1 (start 1 0 0))) (0 ∷ 0 ∷ [])
+    ∷ row 0 (ended (run (over (0x82004022 ∷ [])) 1 (start 1 0 0))) (3 ∷ 0 ∷ [])
+    ∷ row 0 (ended (run (over (0x82005002 ∷ [])) 1 (start 1 0 0))) (3 ∷ 0 ∷ [])
+    ∷ row 0 (ended (run (over (0x82007FE0 ∷ [])) 1 (start 1 0 0))) (0 ∷ 0 ∷ [])
+    ∷ row 0 (ended (run (over (0xC4004022 ∷ [])) 1 (start 1 0 0))) (3 ∷ 0 ∷ [])
+    -- "or a shift's constant; bits 12 to 7 of a Ticc with a constant; bit 29 of a Ticc"
+    ∷ row 0 (ended (run (over (0x8328601F ∷ [])) 1 (start 1 0 0))) (0 ∷ 0 ∷ [])
+    ∷ row 0 (ended (run (over (0x83286021 ∷ [])) 1 (start 1 0 0))) (3 ∷ 0 ∷ [])
+    ∷ row 0 (ended (run (over (0x83307001 ∷ [])) 1 (start 1 0 0))) (3 ∷ 0 ∷ [])
+    ∷ row 0 (ended (run (over (0x83386021 ∷ [])) 1 (start 1 0 0))) (3 ∷ 0 ∷ [])
+    ∷ row 0 (ended (run (over (0x81D0207F ∷ [])) 1 (start 1 0 0))) (0 ∷ 0 ∷ [])
+    ∷ row 0 (ended (run (over (0x81D02080 ∷ [])) 1 (start 1 0 0))) (3 ∷ 0 ∷ [])
+    ∷ row 0 (ended (run (over (0x81D03000 ∷ [])) 1 (start 1 0 0))) (3 ∷ 0 ∷ [])
+    ∷ row 0 (ended (run (over (0x81D00020 ∷ [])) 1 (start 1 0 0))) (3 ∷ 0 ∷ [])
+    ∷ row 0 (ended (run (over (0xA1D02000 ∷ [])) 1 (start 1 0 0))) (3 ∷ 0 ∷ [])
+    -- for the translator: a jmpl that may not be held is with a stray bit no jmpl; a Ticc 8 with bit 29 traps no more
+    ∷ row 0 (answered (0x81C3E008 ∷ 0x81C04002 ∷ []) 8192 12288) (4 ∷ 4 ∷ 0 ∷ [])
+    ∷ row 0 (listed 2 3 (0x81C3E008 ∷ 0x81C04022 ∷ [])) (0 ∷ 2 ∷ 3 ∷ 0 ∷ 4 ∷ 0 ∷ 0 ∷ 4 ∷ 0 ∷ 2 ∷ 2 ∷ 3 ∷ 0x81C3E008 ∷ 0 ∷ 5 ∷ 2 ∷ 0 ∷ 7 ∷ 3 ∷ 4 ∷ [])
+    ∷ row 0 (listed 1 1 (0xB1D02000 ∷ [])) (0 ∷ 1 ∷ 1 ∷ 0 ∷ 4 ∷ 0 ∷ 0 ∷ 7 ∷ 3 ∷ 0 ∷ [])
+    -- and for kinds 1 and 3
+    ∷ row 0 (stepAt 0 (1 ∷ 0x82004002 ∷ 0 ∷ [])) (0 ∷ 0 ∷ [])
+    ∷ row 0 (stepAt 0 (1 ∷ 0x82004022 ∷ 0 ∷ [])) (7 ∷ 0 ∷ [])
+    ∷ row 0 (stepAt 0 (3 ∷ 0x81C04002 ∷ 0 ∷ [])) (0 ∷ 0 ∷ [])
+    ∷ row 0 (stepAt 0 (3 ∷ 0x81C04022 ∷ 0 ∷ [])) (7 ∷ 0 ∷ [])
     ∷ []
 
 pub noCase : Row

@@ -11,7 +11,7 @@ use Rattle.words.specs.Reader.{instructionOf}
 use Rattle.words.specs.Conditions.{holdsOf}
 use Rattle.words.specs.declared.Operand.{Operand}
 use Rattle.words.specs.declared.Instruction.{Instruction}
-use Rattle.words.specs.declared.Instruction.the-variants.{Illegal, Call, Sethi, Bicc, Arithmetic, Jmpl, Ticc, Load, Store}
+use Rattle.words.specs.declared.Instruction.the-variants.{Illegal, Call, Sethi, Bicc, Arithmetic, Jmpl, Ticc, Load, Store, Shift}
 use Rattle.machine.specs.Ends.{ending, Next, go, halt, within, State, live}
 use Rattle.machine.specs.Registers.{putRegister, addressOf}
 use Rattle.machine.specs.Effect.{Machine, withRegisters, effectOf}
@@ -51,8 +51,9 @@ transferOf (Bicc cond annul disp) = bicc cond annul disp
 transferOf (Arithmetic o cc rd rs1 x) = straight
 transferOf (Jmpl rd rs1 x) = jmpl rd rs1 x
 transferOf (Ticc cond rs1 x) = pick (eqb cond 8) trap straight
-transferOf (Load w sign rd rs1 x) = straight
+transferOf (Load o rd rs1 x) = straight
 transferOf (Store w rd rs1 x) = straight
+transferOf (Shift o rd rs1 x) = straight
 
 -- where a displacement, which counts words, leads from an address
 unfoldable pub target : ℕ → ℕ → ℕ

@@ -2,7 +2,7 @@
 use Rattle.numbers.proofs.Choice.{either, Misses, find-none}
 use Rattle.numbers.proofs.Lists.{at-up, past-up, drop-up, drop-all-up}
 use Rattle.numbers.specs.Number.{numberAt}
-use Rattle.words.specs.declared.Instruction.the-variants.{Illegal, Call, Sethi, Bicc, Arithmetic, Jmpl, Ticc, Load, Store}
+use Rattle.words.specs.declared.Instruction.the-variants.{Illegal, Call, Sethi, Bicc, Arithmetic, Jmpl, Ticc, Load, Store, Shift}
 use Rattle.words.specs.declared.Instruction.{Instruction}
 use Rattle.words.specs.Reader.{instructionOf, asJmpl}
 use Rattle.machine.specs.Ends.{ending, halt}
@@ -26,7 +26,7 @@ use Rattle.words.proofs.Instruction.{the-type as instruction}
 
 -- the numbers are those of the variants, in the order of the enum
 abbrev others : List ℕ
-others = 2 ∷ 4 ∷ 6 ∷ 7 ∷ 8 ∷ []
+others = 2 ∷ 4 ∷ 6 ∷ 7 ∷ 8 ∷ 9 ∷ []
 
 pub fits : (i : Instruction) → OneOf others (tagOf instruction i) → fit (transferOf i) ≡ true
 unfolding fit transferOf
@@ -37,11 +37,12 @@ fits (Jmpl rd rs1 x) k = absurd (miss others 5 tt k)
 fits (Sethi rd imm) k = refl
 fits (Arithmetic o cc rd rs1 x) k = refl
 fits (Ticc cond rs1 x) k = either (λ (t : Transfer). fit t ≡ true) (eqb cond 8) trap straight refl refl
-fits (Load w sign rd rs1 x) k = refl
+fits (Load o rd rs1 x) k = refl
 fits (Store w rd rs1 x) k = refl
+fits (Shift o rd rs1 x) k = refl
 
 abbrev no-jmpl : List ℕ
-no-jmpl = 0 ∷ 1 ∷ 2 ∷ 3 ∷ 4 ∷ 6 ∷ 7 ∷ 8 ∷ []
+no-jmpl = 0 ∷ 1 ∷ 2 ∷ 3 ∷ 4 ∷ 6 ∷ 7 ∷ 8 ∷ 9 ∷ []
 
 pub not-held : (i : Instruction) (p : ℕ) (m : Machine) (r : ℕ) → OneOf no-jmpl (tagOf instruction i) → holds (transferOf i) p m r ≡ halt (ending 7 r)
 unfolding holds transferOf
@@ -52,8 +53,9 @@ not-held (Jmpl rd rs1 x) p m r k = absurd (miss no-jmpl 5 tt k)
 not-held (Sethi rd imm) p m r k = refl
 not-held (Arithmetic o cc rd rs1 x) p m r k = refl
 not-held (Ticc cond rs1 x) p m r k = either (λ (t : Transfer). holds t p m r ≡ halt (ending 7 r)) (eqb cond 8) trap straight refl refl
-not-held (Load w sign rd rs1 x) p m r k = refl
+not-held (Load o rd rs1 x) p m r k = refl
 not-held (Store w rd rs1 x) p m r k = refl
+not-held (Shift o rd rs1 x) p m r k = refl
 
 -- a word read for a jmpl alone is held as the word itself
 pub held-alone : (word : ℕ) (i : Instruction) (p : ℕ) (m : Machine) (r : ℕ) → i ≡ asJmpl (instructionOf word)
@@ -69,8 +71,9 @@ held-alone word i p m r e = rw e (alone (instructionOf word))
     alone (Arithmetic o cc rd rs1 x) = refl
     alone (Jmpl rd rs1 x) = refl
     alone (Ticc cond rs1 x) = either (λ (t : Transfer). holds t p m r ≡ halt (ending 7 r)) (eqb cond 8) trap straight refl refl
-    alone (Load w sign rd rs1 x) = refl
+    alone (Load o rd rs1 x) = refl
     alone (Store w rd rs1 x) = refl
+    alone (Shift o rd rs1 x) = refl
 
 each : (w : Which) → idleBicc w true ≡ false
 unfolding idleBicc

@@ -20,7 +20,6 @@ use machine::End;
 use machine::Flags;
 use machine::SourcePc;
 use machine::TargetPc;
-use machine::effect::Effect;
 use machine::effect::perform;
 use machine::registers::address;
 use machine::registers::put;
@@ -79,14 +78,22 @@ fn bad(c: NewControl) -> NewControl
     stop(c, End::BadRecord(k))
 }
 
-// After a word that does not transfer control: the next record, or the end.
-fn finish(c: NewControl, e: Effect) -> NewControl
-    ensures { λ r. ⌜ ((rs a : List ℕ) → newState rs r a ≡ pick (isGoing (e .end)) (live (following (c .at .0) (c .held .0) (machine rs (e .flags .nzvc) a))) (left (newOf rs c a) (e .end))) ⌝ }
+// A word that does not transfer control, then the next record, or the end. Its effect is done in here and not handed over: so the compiler
+// sees where each word goes on, and tests no end of a word that has none.
+fn do_effect(
+    i: Instruction,
+    db: u32,
+    regs: &mut [u32; 32],
+    c: NewControl,
+    area: &mut [u8],
+) -> NewControl
+    ensures { λ r. ⌜ newState (now (regs .exit)) r (now (area .exit)) ≡ settle (newOf (now (regs .entry)) c (now (area .entry))) (within (following (c .at .0) (c .held .0)) (effectOf db i (machine (now (regs .entry)) (c .flags .nzvc) (now (area .entry))))) ⌝ }
 {
-    let f = e.flags;
+    let f = c.flags;
+    let e = perform(i, db, regs, f, area);
     let g = e.end;
     if machine::is_going(g) {
-        return follow(c, f);
+        return follow(c, e.flags);
     }
     stop(c, g)
 }
@@ -115,13 +122,12 @@ fn do_word(
 ) -> NewControl
     ensures { λ r. ⌜ newState (now (regs .exit)) r (now (area .exit)) ≡ settle (newOf (now (regs .entry)) c (now (area .entry))) (pick (fit (transferOf i)) (within (following (c .at .0) (c .held .0)) (effectOf db i (machine (now (regs .entry)) (c .flags .nzvc) (now (area .entry))))) (halt (ending 7 (c .at .0)))) ⌝ }
 {
-    let f = c.flags;
     match i {
         Instruction::Illegal => bad(c),
         Instruction::Call(disp) => bad(c),
         Instruction::Jmpl(rd, rs1, x) => bad(c),
         Instruction::Bicc(cond, annul, disp) => do_branch(c, cond, annul),
-        _ => finish(c, perform(i, db, regs, f, area)),
+        _ => do_effect(i, db, regs, c, area),
     }
 }
 

@@ -56,3 +56,16 @@ found-passes test (row ∷ rows) d k h p =
     go : (b : Bool) → eqb k (row .0) ≡ b → test (row .0) (row .1) ≡ true → test k (find rows d k) ≡ true → test k (pick b (row .1) (find rows d k)) ≡ true
     go true e here rest = rw (eqb-true k (row .0) e) here
     go false e here rest = rest
+
+-- the same of what is a type and no test
+abbrev pub Every : {A : Type 0} → (ℕ → A → Type 0) → List (ℕ × A) → Type 0
+Every P [] = Unit {0}
+Every P (row ∷ rows) = P (row .0) (row .1) × Every P rows
+
+pub found-all : {A : Type 0} (P : ℕ → A → Type 0) (rows : List (ℕ × A)) (d : A) (k : ℕ) → Every P rows → P k d → P k (find rows d k)
+found-all P [] d k h p = p
+found-all P (row ∷ rows) d k h p = go (eqb k (row .0)) refl (h .0) (found-all P rows d k (h .1) p)
+  where
+    go : (b : Bool) → eqb k (row .0) ≡ b → P (row .0) (row .1) → P k (find rows d k) → P k (pick b (row .1) (find rows d k))
+    go true e here rest = rw (eqb-true k (row .0) e) here
+    go false e here rest = rest

@@ -11,7 +11,7 @@ use mathlib.Core.Path.{_≡_, refl, sym}
 use Prim.Native.Nat.{ℕ}
 use Rattle.words.specs.declared.Operand.{Operand}
 use Rattle.words.specs.declared.Operand.the-variants.{Constant}
-use Rattle.words.specs.declared.Instruction.the-variants.{Illegal, Call, Sethi, Bicc, Arithmetic, Jmpl, Ticc, Load, Store}
+use Rattle.words.specs.declared.Instruction.the-variants.{Illegal, Call, Sethi, Bicc, Arithmetic, Jmpl, Ticc, Load, Store, Shift}
 use Rattle.words.specs.declared.Instruction.{Instruction}
 use Rattle.words.specs.declared.Flow.the-variants.{Traps, Continues}
 use Rattle.words.specs.Flow.{flowOf}
@@ -34,8 +34,9 @@ by-flow f h (Ticc cond rs1 x) = go (eqb cond 8)
     go : (b : Bool) → f (transferred (pick b Traps Continues)) ≡ f (pick b trap straight)
     go true = refl
     go false = refl
-by-flow f h (Load w sign rd rs1 x) = refl
+by-flow f h (Load o rd rs1 x) = refl
 by-flow f h (Store w rd rs1 x) = refl
+by-flow f h (Shift o rd rs1 x) = refl
 
 -- a branch that may be held: condition 0, no annul
 each : (w : Which) → idleBicc w true ≡ false

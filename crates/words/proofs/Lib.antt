@@ -1,3 +1,7 @@
 pub mod Reader
 pub mod Conditions
+pub mod Strict
 pub mod Jmpl
+pub mod Fields
+pub mod Joined
+pub mod RoundTrip

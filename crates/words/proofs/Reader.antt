@@ -9,7 +9,7 @@ use Rattle.numbers.proofs.Number.{extend-by-sum}
 use Rattle.numbers.proofs.Choice.{Misses, find-none}
 use Rattle.words.specs.declared.Operand.{Operand}
 use Rattle.words.specs.declared.Instruction.the-variants.{Illegal}
-use Rattle.words.specs.Reader.{bits, rows0, format0Of, Format2, rows2, none2, format2Of, Format3, rows3, none3, format3Of, byFormat, instructionOf}
+use Rattle.words.specs.Reader.{bits, rows0, format0Of, Format2, rows2, none2, format2Of, Format3, rows3, none3, format3Of, byFormat, strictly, instructionOf}
 
 -- the low bits of a word
 pub low-bits : (word width : ℕ) → bitAnd word (2 ^ width - 1) ≡ bits word 0 width
@@ -34,9 +34,9 @@ unfolding format3Of
 no-row3 op3 rd rs1 x m = sym (ap (λ (f : Format3). f rd rs1 x) (find-none rows3 none3 op3 m))
 
 -- the instruction of a word whose format is known
-pub by-op : (word k n : ℕ) → k ≡ bits word 30 2 → k ≡ n → instructionOf word ≡ byFormat n word
+pub by-op : (word k n : ℕ) → k ≡ bits word 30 2 → k ≡ n → instructionOf word ≡ strictly word (byFormat n word)
 unfolding instructionOf
-by-op word k n e h = ap (λ (m : ℕ). byFormat m word) (sym e ∙ h)
+by-op word k n e h = ap (λ (m : ℕ). strictly word (byFormat m word)) (sym e ∙ h)
 
 pub no-row0 : (word k : ℕ) → k ≡ bits word 22 3 → Misses (Unit {0}) (rows0 word) k → Illegal ≡ format0Of word
 unfolding format0Of

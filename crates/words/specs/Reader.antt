@@ -1,16 +1,18 @@
 -- 01: "Each word reads as one instruction whose second operand is a register or a signed 13-bit constant."
-use Prim.Native.Nat.{ℕ, zero, suc, _/_, _%_, _^_}
-use mathlib.Core.Bool.{Bool, true, false, _&&_}
+use Prim.Native.Nat.{ℕ, zero, suc, _-_, _/_, _%_, _^_}
+use mathlib.Core.Bool.{Bool, true, false, not, _&&_, _||_}
 use mathlib.Core.List.{List, [], _∷_}
 use lib.Dec.{eqb}
 use Rattle.numbers.specs.Choice.{pick, find}
 use Rattle.numbers.specs.Number.{signed}
 use Rattle.words.specs.declared.Operand.{Operand}
 use Rattle.words.specs.declared.Operand.the-variants.{Register, Constant}
-use Rattle.words.specs.declared.Operation.the-variants.{Add, And, Or, Xor, Sub, Andn, Orn, Xnor, Addx, Subx, Sll, Srl, Sra}
+use Rattle.words.specs.declared.Operation.the-variants.{Add, And, Or, Xor, Sub, Andn, Orn, Xnor, Addx, Subx}
+use Rattle.words.specs.declared.ShiftOperation.the-variants.{Sll, Srl, Sra}
+use Rattle.words.specs.declared.LoadOperation.the-variants.{Ld, Ldub, Lduh, Ldsb, Ldsh}
 use Rattle.words.specs.declared.Width.the-variants.{Byte, Half, Word}
 use Rattle.words.specs.declared.Instruction.{Instruction}
-use Rattle.words.specs.declared.Instruction.the-variants.{Illegal, Call, Sethi, Bicc, Arithmetic, Jmpl, Ticc, Load, Store}
+use Rattle.words.specs.declared.Instruction.the-variants.{Illegal, Call, Sethi, Bicc, Arithmetic, Jmpl, Ticc, Load, Store, Shift}
 
 -- "the other fields are cut from it as V8 draws them": so many bits of a word, from the lowest of them
 unfoldable pub bits : ℕ → ℕ → ℕ → ℕ
@@ -60,9 +62,9 @@ rows2 =
     ∷ (23, λ cond rd rs1 x. Arithmetic Xnor true rd rs1 x)
     ∷ (24, λ cond rd rs1 x. Arithmetic Addx true rd rs1 x)
     ∷ (28, λ cond rd rs1 x. Arithmetic Subx true rd rs1 x)
-    ∷ (37, λ cond rd rs1 x. Arithmetic Sll false rd rs1 x)
-    ∷ (38, λ cond rd rs1 x. Arithmetic Srl false rd rs1 x)
-    ∷ (39, λ cond rd rs1 x. Arithmetic Sra false rd rs1 x)
+    ∷ (37, λ cond rd rs1 x. Shift Sll rd rs1 x)
+    ∷ (38, λ cond rd rs1 x. Shift Srl rd rs1 x)
+    ∷ (39, λ cond rd rs1 x. Shift Sra rd rs1 x)
     ∷ (56, λ cond rd rs1 x. Jmpl rd rs1 x)
     ∷ (58, λ cond rd rs1 x. Ticc cond rs1 x)
     ∷ []
@@ -79,14 +81,14 @@ none3 rd rs1 x = Illegal
 
 abbrev pub rows3 : List (ℕ × Format3)
 rows3 =
-    (0, λ rd rs1 x. Load Word false rd rs1 x)
-    ∷ (1, λ rd rs1 x. Load Byte false rd rs1 x)
-    ∷ (2, λ rd rs1 x. Load Half false rd rs1 x)
+    (0, λ rd rs1 x. Load Ld rd rs1 x)
+    ∷ (1, λ rd rs1 x. Load Ldub rd rs1 x)
+    ∷ (2, λ rd rs1 x. Load Lduh rd rs1 x)
     ∷ (4, λ rd rs1 x. Store Word rd rs1 x)
     ∷ (5, λ rd rs1 x. Store Byte rd rs1 x)
     ∷ (6, λ rd rs1 x. Store Half rd rs1 x)
-    ∷ (9, λ rd rs1 x. Load Byte true rd rs1 x)
-    ∷ (10, λ rd rs1 x. Load Half true rd rs1 x)
+    ∷ (9, λ rd rs1 x. Load Ldsb rd rs1 x)
+    ∷ (10, λ rd rs1 x. Load Ldsh rd rs1 x)
     ∷ []
 
 unfoldable pub format3Of : ℕ → Format3
@@ -99,9 +101,33 @@ byFormat (suc zero) word = Call (signed 30 (bits word 0 30))
 byFormat (suc (suc zero)) word = format2Of (bits word 19 6) (bits word 25 4) (bits word 25 5) (bits word 14 5) (operandOf word)
 byFormat (suc (suc (suc n))) word = format3Of (bits word 19 6) (bits word 25 5) (bits word 14 5) (operandOf word)
 
--- "All others are illegal. Unused bits are ignored."
+-- 02, N2: "The reader .. takes a word with an unused bit set as illegal": a bit from the given one to bit 12
+unfoldable pub setFrom : ℕ → ℕ → Bool
+setFrom n word = not (eqb (bits word n (13 - n)) 0)
+
+-- "bits 12 to 5 when the second operand is a register"
+unfoldable pub registerStrays : ℕ → Bool
+registerStrays word = not (bitSet word 13) && setFrom 5 word
+
+-- "or a shift's constant; bits 12 to 7 of a Ticc with a constant; bit 29 of a Ticc"; a word without a second operand uses all its bits
+unfoldable pub unusedSet : Instruction → ℕ → Bool
+unusedSet Illegal word = false
+unusedSet (Call disp) word = false
+unusedSet (Sethi rd imm) word = false
+unusedSet (Bicc cond annul disp) word = false
+unusedSet (Arithmetic o cc rd rs1 x) word = registerStrays word
+unusedSet (Jmpl rd rs1 x) word = registerStrays word
+unusedSet (Ticc cond rs1 x) word = registerStrays word || (bitSet word 29 || setFrom 7 word)
+unusedSet (Load o rd rs1 x) word = registerStrays word
+unusedSet (Store w rd rs1 x) word = registerStrays word
+unusedSet (Shift o rd rs1 x) word = setFrom 5 word
+
+unfoldable pub strictly : ℕ → Instruction → Instruction
+strictly word i = pick (unusedSet i word) Illegal i
+
+-- "All others are illegal."
 unfoldable pub instructionOf : ℕ → Instruction
-instructionOf word = byFormat (bits word 30 2) word
+instructionOf word = strictly word (byFormat (bits word 30 2) word)
 
 -- 02, N1: a word "with bits 31, 30 and 24 to 22 all 0", as V8 draws unimp, whatever else it reads as
 unfoldable pub isUnimp : ℕ → Bool
@@ -116,5 +142,6 @@ asJmpl (Bicc cond annul disp) = Illegal
 asJmpl (Arithmetic o cc rd rs1 x) = Illegal
 asJmpl (Jmpl rd rs1 x) = Jmpl rd rs1 x
 asJmpl (Ticc cond rs1 x) = Illegal
-asJmpl (Load w sign rd rs1 x) = Illegal
+asJmpl (Load o rd rs1 x) = Illegal
 asJmpl (Store w rd rs1 x) = Illegal
+asJmpl (Shift o rd rs1 x) = Illegal

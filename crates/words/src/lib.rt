@@ -1,14 +1,20 @@
-// SPARC V8 instruction words: the fields cut from a word, the instruction that it reads as, and the conditions.
+// SPARC V8 instruction words: the fields cut from a word, the instruction that it reads as, its word again, and the conditions.
 ghost use mathlib.Core.Path.{_≡_};
-ghost use Prim.Native.Nat.{ℕ, _<_};
+ghost use mathlib.Core.Bool.{false, _||_};
+ghost use mathlib.Core.List.{List, [], _∷_};
+ghost use Prim.Native.Nat.{ℕ, _+_, _-_, _^_, _<_, _≤_, min};
 ghost use Rattle.numbers.specs.Number.{signed};
 ghost use Rattle.words.specs.declared.Operand.{Operand};
-ghost use Rattle.words.specs.declared.Instruction.the-variants.{Ticc};
-ghost use Rattle.words.specs.Reader.{bits, bitSet, operandOf, format0Of, format2Of, format3Of, instructionOf, isUnimp, asJmpl};
-ghost use Rattle.words.specs.Conditions.{bitAt, holdsOf};
-ghost use Rattle.words.specs.Flow.{flowOf};
+ghost use Rattle.words.specs.declared.ShiftOperation.{ShiftOperation};
+ghost use Rattle.words.specs.declared.Instruction.the-variants.{Arithmetic, Jmpl, Ticc, Load, Store, Shift};
+ghost use Rattle.words.specs.Reader.{bits, bitSet, registerStrays, setFrom, strictly, operandOf, format0Of, format2Of, format3Of, instructionOf, isUnimp, asJmpl};
+ghost use Rattle.words.specs.Conditions.{bitAt, bitOf, holdsOf};
+ghost use Rattle.words.specs.Flow.{operandStrays, flowOf, isKnown};
+ghost use Rattle.words.specs.declared.Operand.the-variants.{Register};
+ghost use Rattle.words.specs.declared.Written.the-variants.{Fit};
+ghost use Rattle.words.specs.Writer.{Field, plain, withSign, behind, joined, operand, constant13, constant7, constant5, arithmeticOp3, shiftOp3, loadOp3, storeOp3, longWord, shiftWord, trapWord, sethiWord, branchWord, callWord, writtenOf};
 
-// The second operand: a register, or a signed 13-bit constant, extended to 32 bits.
+// The second operand: a register, or a constant. A shift's constant has 5 bits and a Ticc's 7; any other is a signed one of 13, extended to 32.
 pub enum Operand {
     Register(usize),
     Constant(u32),
@@ -25,19 +31,33 @@ pub enum Operation {
     Xnor,
     Addx,
     Subx,
+}
+
+// A shift has no flag form.
+pub enum ShiftOperation {
     Sll,
     Srl,
     Sra,
 }
 
-// How much a load or a store moves: 1, 2 or 4 bytes.
+// A byte and a half are loaded with or without their sign extended.
+pub enum LoadOperation {
+    Ld,
+    Ldub,
+    Lduh,
+    Ldsb,
+    Ldsh,
+}
+
+// How much a store moves: 1, 2 or 4 bytes.
 pub enum Width {
     Byte,
     Half,
     Word,
 }
 
-// What a word reads as. Displacements count words and are signed, extended to 32 bits.
+// What a word reads as: illegal, or an instruction. Each instruction has one word, if its numbers fit their fields. Displacements
+// count words and are signed, extended to 32 bits.
 pub enum Instruction {
     Illegal,
     // disp30
@@ -52,10 +72,12 @@ pub enum Instruction {
     Jmpl(u32, u32, Operand),
     // cond, rs1, second operand
     Ticc(u32, u32, Operand),
-    // width, whether the sign is extended, rd, rs1, second operand
-    Load(Width, bool, u32, u32, Operand),
+    // operation, rd, rs1, second operand
+    Load(LoadOperation, u32, u32, Operand),
     // width, rd, rs1, second operand
     Store(Width, u32, u32, Operand),
+    // operation, rd, rs1, second operand
+    Shift(ShiftOperation, u32, u32, Operand),
 }
 
 // ---- the fields of a word, as V8 draws them
@@ -154,6 +176,114 @@ fn second_operand(word: u32) -> Operand
     }
 }
 
+// Bits 12 to 5 and bits 12 to 7, which some words do not use.
+fn high8(word: u32) -> u32
+    ensures { λ r. ⌜ r ≡ bits word 5 8 ⌝ }
+{
+    (word >> 5) & 255
+}
+
+fn high6(word: u32) -> u32
+    ensures { λ r. ⌜ r ≡ bits word 7 6 ⌝ }
+{
+    (word >> 7) & 63
+}
+
+// Whether a bit is set that is unused where the second operand is a register.
+fn register_strays(word: u32) -> bool
+    ensures { λ r. ⌜ r ≡ registerStrays word ⌝ }
+{
+    if constant_bit(word) {
+        return false;
+    }
+    high8(word) != 0
+}
+
+// The same of a Ticc's constant, and of its bit 29.
+fn trap_strays(word: u32) -> bool
+    ensures { λ r. ⌜ r ≡ bitSet word 29 || setFrom 7 word ⌝ }
+{
+    if annul_bit(word) {
+        return true;
+    }
+    high6(word) != 0
+}
+
+// What each form makes of a word: its fields are cut and its unused bits tested here, by op3 and not before, so that no word pays for another.
+// In the three that are met most a constant is told first, and only a register's word is tested.
+
+fn arithmetic(o: Operation, cc: bool, word: u32) -> Instruction
+    ensures { λ r. ⌜ r ≡ strictly word (Arithmetic o cc (bits word 25 5) (bits word 14 5) (operandOf word)) ⌝ }
+{
+    if constant_bit(word) {
+        let k = Operand::Constant(simm13(word));
+        return Instruction::Arithmetic(o, cc, rd(word), rs1(word), k);
+    }
+    if high8(word) != 0 {
+        return Instruction::Illegal;
+    }
+    let x = Operand::Register(rs2(word) as usize);
+    Instruction::Arithmetic(o, cc, rd(word), rs1(word), x)
+}
+
+fn jump(word: u32) -> Instruction
+    ensures { λ r. ⌜ r ≡ strictly word (Jmpl (bits word 25 5) (bits word 14 5) (operandOf word)) ⌝ }
+{
+    if register_strays(word) {
+        return Instruction::Illegal;
+    }
+    Instruction::Jmpl(rd(word), rs1(word), second_operand(word))
+}
+
+fn load(o: LoadOperation, word: u32) -> Instruction
+    ensures { λ r. ⌜ r ≡ strictly word (Load o (bits word 25 5) (bits word 14 5) (operandOf word)) ⌝ }
+{
+    if constant_bit(word) {
+        let k = Operand::Constant(simm13(word));
+        return Instruction::Load(o, rd(word), rs1(word), k);
+    }
+    if high8(word) != 0 {
+        return Instruction::Illegal;
+    }
+    let x = Operand::Register(rs2(word) as usize);
+    Instruction::Load(o, rd(word), rs1(word), x)
+}
+
+fn store(w: Width, word: u32) -> Instruction
+    ensures { λ r. ⌜ r ≡ strictly word (Store w (bits word 25 5) (bits word 14 5) (operandOf word)) ⌝ }
+{
+    if constant_bit(word) {
+        let k = Operand::Constant(simm13(word));
+        return Instruction::Store(w, rd(word), rs1(word), k);
+    }
+    if high8(word) != 0 {
+        return Instruction::Illegal;
+    }
+    let x = Operand::Register(rs2(word) as usize);
+    Instruction::Store(w, rd(word), rs1(word), x)
+}
+
+fn shift(o: ShiftOperation, word: u32) -> Instruction
+    ensures { λ r. ⌜ r ≡ strictly word (Shift o (bits word 25 5) (bits word 14 5) (operandOf word)) ⌝ }
+{
+    if high8(word) != 0 {
+        return Instruction::Illegal;
+    }
+    Instruction::Shift(o, rd(word), rs1(word), second_operand(word))
+}
+
+fn trap(word: u32) -> Instruction
+    ensures { λ r. ⌜ r ≡ strictly word (Ticc (bits word 25 4) (bits word 14 5) (operandOf word)) ⌝ }
+{
+    if register_strays(word) {
+        return Instruction::Illegal;
+    }
+    if trap_strays(word) {
+        return Instruction::Illegal;
+    }
+    Instruction::Ticc(cond(word), rs1(word), second_operand(word))
+}
+
 // Format 0, by op2: branches and sethi.
 fn format0(word: u32) -> Instruction
     ensures { λ r. ⌜ r ≡ format0Of word ⌝ }
@@ -167,57 +297,57 @@ fn format0(word: u32) -> Instruction
 }
 
 // Format 2, by op3: arithmetic, jmpl and Ticc.
-fn format2(op3: u32, cond: u32, rd: u32, rs1: u32, x: Operand) -> Instruction
-    ensures { λ r. ⌜ r ≡ format2Of op3 cond rd rs1 x ⌝ }
+fn format2(op3: u32, word: u32) -> Instruction
+    ensures { λ r. ⌜ r ≡ strictly word (format2Of op3 (bits word 25 4) (bits word 25 5) (bits word 14 5) (operandOf word)) ⌝ }
 {
     match op3 {
-        0 => Instruction::Arithmetic(Operation::Add, false, rd, rs1, x),
-        1 => Instruction::Arithmetic(Operation::And, false, rd, rs1, x),
-        2 => Instruction::Arithmetic(Operation::Or, false, rd, rs1, x),
-        3 => Instruction::Arithmetic(Operation::Xor, false, rd, rs1, x),
-        4 => Instruction::Arithmetic(Operation::Sub, false, rd, rs1, x),
-        5 => Instruction::Arithmetic(Operation::Andn, false, rd, rs1, x),
-        6 => Instruction::Arithmetic(Operation::Orn, false, rd, rs1, x),
-        7 => Instruction::Arithmetic(Operation::Xnor, false, rd, rs1, x),
-        8 => Instruction::Arithmetic(Operation::Addx, false, rd, rs1, x),
-        12 => Instruction::Arithmetic(Operation::Subx, false, rd, rs1, x),
-        16 => Instruction::Arithmetic(Operation::Add, true, rd, rs1, x),
-        17 => Instruction::Arithmetic(Operation::And, true, rd, rs1, x),
-        18 => Instruction::Arithmetic(Operation::Or, true, rd, rs1, x),
-        19 => Instruction::Arithmetic(Operation::Xor, true, rd, rs1, x),
-        20 => Instruction::Arithmetic(Operation::Sub, true, rd, rs1, x),
-        21 => Instruction::Arithmetic(Operation::Andn, true, rd, rs1, x),
-        22 => Instruction::Arithmetic(Operation::Orn, true, rd, rs1, x),
-        23 => Instruction::Arithmetic(Operation::Xnor, true, rd, rs1, x),
-        24 => Instruction::Arithmetic(Operation::Addx, true, rd, rs1, x),
-        28 => Instruction::Arithmetic(Operation::Subx, true, rd, rs1, x),
-        37 => Instruction::Arithmetic(Operation::Sll, false, rd, rs1, x),
-        38 => Instruction::Arithmetic(Operation::Srl, false, rd, rs1, x),
-        39 => Instruction::Arithmetic(Operation::Sra, false, rd, rs1, x),
-        56 => Instruction::Jmpl(rd, rs1, x),
-        58 => Instruction::Ticc(cond, rs1, x),
+        0 => arithmetic(Operation::Add, false, word),
+        1 => arithmetic(Operation::And, false, word),
+        2 => arithmetic(Operation::Or, false, word),
+        3 => arithmetic(Operation::Xor, false, word),
+        4 => arithmetic(Operation::Sub, false, word),
+        5 => arithmetic(Operation::Andn, false, word),
+        6 => arithmetic(Operation::Orn, false, word),
+        7 => arithmetic(Operation::Xnor, false, word),
+        8 => arithmetic(Operation::Addx, false, word),
+        12 => arithmetic(Operation::Subx, false, word),
+        16 => arithmetic(Operation::Add, true, word),
+        17 => arithmetic(Operation::And, true, word),
+        18 => arithmetic(Operation::Or, true, word),
+        19 => arithmetic(Operation::Xor, true, word),
+        20 => arithmetic(Operation::Sub, true, word),
+        21 => arithmetic(Operation::Andn, true, word),
+        22 => arithmetic(Operation::Orn, true, word),
+        23 => arithmetic(Operation::Xnor, true, word),
+        24 => arithmetic(Operation::Addx, true, word),
+        28 => arithmetic(Operation::Subx, true, word),
+        37 => shift(ShiftOperation::Sll, word),
+        38 => shift(ShiftOperation::Srl, word),
+        39 => shift(ShiftOperation::Sra, word),
+        56 => jump(word),
+        58 => trap(word),
         _ => Instruction::Illegal,
     }
 }
 
 // Format 3, by op3: loads and stores.
-fn format3(op3: u32, rd: u32, rs1: u32, x: Operand) -> Instruction
-    ensures { λ r. ⌜ r ≡ format3Of op3 rd rs1 x ⌝ }
+fn format3(op3: u32, word: u32) -> Instruction
+    ensures { λ r. ⌜ r ≡ strictly word (format3Of op3 (bits word 25 5) (bits word 14 5) (operandOf word)) ⌝ }
 {
     match op3 {
-        0 => Instruction::Load(Width::Word, false, rd, rs1, x),
-        1 => Instruction::Load(Width::Byte, false, rd, rs1, x),
-        2 => Instruction::Load(Width::Half, false, rd, rs1, x),
-        4 => Instruction::Store(Width::Word, rd, rs1, x),
-        5 => Instruction::Store(Width::Byte, rd, rs1, x),
-        6 => Instruction::Store(Width::Half, rd, rs1, x),
-        9 => Instruction::Load(Width::Byte, true, rd, rs1, x),
-        10 => Instruction::Load(Width::Half, true, rd, rs1, x),
+        0 => load(LoadOperation::Ld, word),
+        1 => load(LoadOperation::Ldub, word),
+        2 => load(LoadOperation::Lduh, word),
+        4 => store(Width::Word, word),
+        5 => store(Width::Byte, word),
+        6 => store(Width::Half, word),
+        9 => load(LoadOperation::Ldsb, word),
+        10 => load(LoadOperation::Ldsh, word),
         _ => Instruction::Illegal,
     }
 }
 
-// The instruction that a word reads as. Unused bits are ignored.
+// The instruction that a word reads as. A word with an unused bit set is illegal.
 pub fn read_instruction(word: u32) -> Instruction
     ensures { λ r. ⌜ r ≡ instructionOf word ⌝ }
 {
@@ -228,11 +358,10 @@ pub fn read_instruction(word: u32) -> Instruction
         }
         return Instruction::Call(disp30(word));
     }
-    let x = second_operand(word);
     if k == 2 {
-        return format2(op3(word), cond(word), rd(word), rs1(word), x);
+        return format2(op3(word), word);
     }
-    format3(op3(word), rd(word), rs1(word), x)
+    format3(op3(word), word)
 }
 
 // The same, for a jmpl alone. Where only a jmpl will do, this is quicker, and the whole reader keeps its one caller.
@@ -241,7 +370,7 @@ pub fn read_jmpl(word: u32) -> Instruction
 {
     if op(word) == 2 {
         if op3(word) == 56 {
-            return Instruction::Jmpl(rd(word), rs1(word), second_operand(word));
+            return jump(word);
         }
     }
     Instruction::Illegal
@@ -285,17 +414,35 @@ fn flow0(word: u32) -> Flow
     }
 }
 
-fn trap_flow(cond: u32) -> Flow
-    ensures { λ r. ⌜ ((rs1 : ℕ) (x : Operand) → r ≡ flowOf (Ticc cond rs1 x)) ⌝ }
+// Where a register's number or a shift's constant stands, bits 12 to 5 are unused; most words have them clear.
+fn operand_strays(op3: u32, word: u32) -> bool
+    ensures { λ r. ⌜ r ≡ operandStrays op3 word ⌝ }
 {
+    if high8(word) == 0 {
+        return false;
+    }
+    if constant_bit(word) {
+        return numbers::subtract(op3, 37) < 3;
+    }
+    true
+}
+
+fn trap_flow(cond: u32, word: u32) -> Flow
+    requires { ⌜ registerStrays word ≡ false ⌝ }
+    ensures { λ r. ⌜ ((rs1 : ℕ) (x : Operand) → r ≡ flowOf (strictly word (Ticc cond rs1 x))) ⌝ }
+{
+    if trap_strays(word) {
+        return Flow::Faults;
+    }
     if cond == 8 {
         return Flow::Traps;
     }
     Flow::Continues
 }
 
-fn flow2(op3: u32, cond: u32, rd: u32) -> Flow
-    ensures { λ r. ⌜ ((rs1 : ℕ) (x : Operand) → r ≡ flowOf (format2Of op3 cond rd rs1 x)) ⌝ }
+fn flow2(op3: u32, cond: u32, rd: u32, word: u32) -> Flow
+    requires { ⌜ operandStrays op3 word ≡ false ⌝ }
+    ensures { λ r. ⌜ ((rs1 : ℕ) (x : Operand) → r ≡ flowOf (strictly word (format2Of op3 cond rd rs1 x))) ⌝ }
 {
     match op3 {
         0 => Flow::Continues,
@@ -322,7 +469,7 @@ fn flow2(op3: u32, cond: u32, rd: u32) -> Flow
         38 => Flow::Continues,
         39 => Flow::Continues,
         56 => Flow::Jumps(rd),
-        58 => trap_flow(cond),
+        58 => trap_flow(cond, word),
         _ => Flow::Faults,
     }
 }
@@ -354,10 +501,263 @@ pub fn read_flow(word: u32) -> Flow
         }
         return Flow::Calls(disp30(word));
     }
+    if operand_strays(op3(word), word) {
+        return Flow::Faults;
+    }
     if k == 2 {
-        return flow2(op3(word), cond(word), rd(word));
+        return flow2(op3(word), cond(word), rd(word), word);
     }
     flow3(op3(word))
+}
+
+// Whether a flow is that of a known word.
+fn is_known(f: Flow) -> bool
+    ensures { λ r. ⌜ r ≡ isKnown f ⌝ }
+{
+    match f {
+        Flow::Faults => false,
+        _ => true,
+    }
+}
+
+// Whether a word of format 2 or 3 with this op3 is known, where no unused bit is set.
+pub fn is_form2(op3: u32) -> bool
+    ensures { λ r. ⌜ ((rs1 : ℕ) (x : Operand) → r ≡ isKnown (flowOf (format2Of op3 0 0 rs1 x))) ⌝ }
+{
+    is_known(flow2(op3, 0, 0, 0))
+}
+
+pub fn is_form3(op3: u32) -> bool
+    ensures { λ r. ⌜ ((rd rs1 : ℕ) (x : Operand) → r ≡ isKnown (flowOf (format3Of op3 rd rs1 x))) ⌝ }
+{
+    is_known(flow3(op3))
+}
+
+// ---- the writer
+
+// An instruction's word, or the bits of the field that a number of it does not fit: of several, the one highest in the word.
+pub enum Written {
+    Fit(u32),
+    Unfit(u32),
+}
+
+// The bits so far with a field of so many bits behind them.
+fn put_field(w: Written, width: u32, v: u32) -> Written
+    requires { ⌜ width < 32 ⌝ }
+    ensures { λ r. ⌜ r ≡ behind w (plain width v) ⌝ }
+{
+    match w {
+        Written::Fit(word) => {
+            if v >> width == 0 {
+                let joined = numbers::add(word << width, v);
+                return Written::Fit(joined);
+            }
+            Written::Unfit(width)
+        }
+        Written::Unfit(n) => Written::Unfit(n),
+    }
+}
+
+// The same for a signed number; half is the weight of the field's sign bit. A number that does not fit goes on as one that does not.
+fn put_signed(w: Written, width: u32, half: u32, v: u32) -> Written
+    requires { ⌜ (width < 32) × (half ≡ 2 ^ (width - 1)) × (half + half ≡ 2 ^ width) × (half ≤ 1073741824) × (0 < half) ⌝ }
+    ensures { λ r. ⌜ r ≡ behind w (withSign width v) ⌝ }
+{
+    let whole = half + half;
+    if v < half {
+        return put_field(w, width, v);
+    }
+    if 4294967295 - half < v {
+        return put_field(w, width, v % whole);
+    }
+    put_field(w, width, whole)
+}
+
+// A register's number in 32 bits; one that no register has stays such a one.
+fn narrow(i: usize) -> u32
+    ensures { λ r. ⌜ r ≡ min i 32 ⌝ }
+{
+    if i < 32 {
+        return i as u32;
+    }
+    32
+}
+
+fn put_register(w: Written, i: usize) -> Written
+    ensures { λ r. ⌜ ((f : ℕ → List Field) → r ≡ joined w (operand f (Register i))) ⌝ }
+{
+    put_field(put_field(put_field(w, 1, 0), 8, 0), 5, narrow(i))
+}
+
+// The second operand, its constant a signed one of 13 bits, one of 5 and one of 7.
+fn put_operand13(w: Written, x: Operand) -> Written
+    ensures { λ r. ⌜ r ≡ joined w (operand constant13 x) ⌝ }
+{
+    match x {
+        Operand::Register(i) => put_register(w, i),
+        Operand::Constant(k) => put_signed(put_field(w, 1, 1), 13, 4096, k),
+    }
+}
+
+fn put_operand5(w: Written, x: Operand) -> Written
+    ensures { λ r. ⌜ r ≡ joined w (operand constant5 x) ⌝ }
+{
+    match x {
+        Operand::Register(i) => put_register(w, i),
+        Operand::Constant(k) => put_field(put_field(put_field(w, 1, 1), 8, 0), 5, k),
+    }
+}
+
+fn put_operand7(w: Written, x: Operand) -> Written
+    ensures { λ r. ⌜ r ≡ joined w (operand constant7 x) ⌝ }
+{
+    match x {
+        Operand::Register(i) => put_register(w, i),
+        Operand::Constant(k) => put_field(put_field(put_field(w, 1, 1), 6, 0), 7, k),
+    }
+}
+
+// op, rd, op3 and rs1.
+fn upper(op: u32, rd: u32, op3: u32, rs1: u32) -> Written
+    ensures { λ r. ⌜ r ≡ joined (Fit op) (plain 5 rd ∷ plain 6 op3 ∷ plain 5 rs1 ∷ []) ⌝ }
+{
+    let w = Written::Fit(op);
+    put_field(put_field(put_field(w, 5, rd), 6, op3), 5, rs1)
+}
+
+pub fn long_word(op: u32, rd: u32, op3: u32, rs1: u32, x: Operand) -> Written
+    ensures { λ r. ⌜ r ≡ longWord op rd op3 rs1 x ⌝ }
+{
+    put_operand13(upper(op, rd, op3, rs1), x)
+}
+
+pub fn shift_word(rd: u32, op3: u32, rs1: u32, x: Operand) -> Written
+    ensures { λ r. ⌜ r ≡ shiftWord rd op3 rs1 x ⌝ }
+{
+    put_operand5(upper(2, rd, op3, rs1), x)
+}
+
+pub fn trap_word(cond: u32, rs1: u32, x: Operand) -> Written
+    ensures { λ r. ⌜ r ≡ trapWord cond rs1 x ⌝ }
+{
+    let w = Written::Fit(2);
+    let first = put_field(put_field(w, 1, 0), 4, cond);
+    put_operand7(put_field(put_field(first, 6, 58), 5, rs1), x)
+}
+
+pub fn sethi_word(rd: u32, imm: u32) -> Written
+    ensures { λ r. ⌜ r ≡ sethiWord rd imm ⌝ }
+{
+    let w = Written::Fit(0);
+    put_field(put_field(put_field(w, 5, rd), 3, 4), 22, imm)
+}
+
+pub fn one_bit(b: bool) -> u32
+    ensures { λ r. ⌜ r ≡ bitOf b ⌝ }
+{
+    if b {
+        return 1;
+    }
+    0
+}
+
+pub fn branch_word(cond: u32, annul: bool, disp: u32) -> Written
+    ensures { λ r. ⌜ r ≡ branchWord cond annul disp ⌝ }
+{
+    let w = Written::Fit(0);
+    let first = put_field(put_field(w, 1, one_bit(annul)), 4, cond);
+    put_signed(put_field(first, 3, 2), 22, 2097152, disp)
+}
+
+pub fn call_word(disp: u32) -> Written
+    ensures { λ r. ⌜ r ≡ callWord disp ⌝ }
+{
+    let w = Written::Fit(1);
+    put_signed(w, 30, 536870912, disp)
+}
+
+fn plain_op3(o: Operation) -> u32
+    ensures { λ r. ⌜ (r ≡ arithmeticOp3 o false) × (r < 16) ⌝ }
+{
+    match o {
+        Operation::Add => 0,
+        Operation::And => 1,
+        Operation::Or => 2,
+        Operation::Xor => 3,
+        Operation::Sub => 4,
+        Operation::Andn => 5,
+        Operation::Orn => 6,
+        Operation::Xnor => 7,
+        Operation::Addx => 8,
+        Operation::Subx => 12,
+    }
+}
+
+// The flag form has bit 4 of op3 set.
+pub fn arithmetic_op3(o: Operation, cc: bool) -> u32
+    ensures { λ r. ⌜ (r ≡ arithmeticOp3 o cc) × (r < 64) ⌝ }
+{
+    let k = plain_op3(o);
+    if cc {
+        return k + 16;
+    }
+    k
+}
+
+pub fn shift_op3(o: ShiftOperation) -> u32
+    ensures { λ r. ⌜ (r ≡ shiftOp3 o) × (r < 64) ⌝ }
+{
+    match o {
+        ShiftOperation::Sll => 37,
+        ShiftOperation::Srl => 38,
+        ShiftOperation::Sra => 39,
+    }
+}
+
+pub fn load_op3(o: LoadOperation) -> u32
+    ensures { λ r. ⌜ (r ≡ loadOp3 o) × (r < 64) ⌝ }
+{
+    match o {
+        LoadOperation::Ld => 0,
+        LoadOperation::Ldub => 1,
+        LoadOperation::Lduh => 2,
+        LoadOperation::Ldsb => 9,
+        LoadOperation::Ldsh => 10,
+    }
+}
+
+pub fn store_op3(w: Width) -> u32
+    ensures { λ r. ⌜ (r ≡ storeOp3 w) × (r < 64) ⌝ }
+{
+    match w {
+        Width::Byte => 5,
+        Width::Half => 6,
+        Width::Word => 4,
+    }
+}
+
+// The word of an instruction, unused bits 0. What is no instruction is refused with 0 bits.
+pub fn write_instruction(i: Instruction) -> Written
+    ensures { λ r. ⌜ r ≡ writtenOf i ⌝ }
+{
+    match i {
+        Instruction::Illegal => Written::Unfit(0),
+        Instruction::Call(disp) => call_word(disp),
+        Instruction::Sethi(rd, imm) => sethi_word(rd, imm),
+        Instruction::Bicc(cond, annul, disp) => branch_word(cond, annul, disp),
+        Instruction::Arithmetic(o, cc, rd, rs1, x) => long_word(
+            2,
+            rd,
+            arithmetic_op3(o, cc),
+            rs1,
+            x,
+        ),
+        Instruction::Jmpl(rd, rs1, x) => long_word(2, rd, 56, rs1, x),
+        Instruction::Ticc(cond, rs1, x) => trap_word(cond, rs1, x),
+        Instruction::Load(o, rd, rs1, x) => long_word(3, rd, load_op3(o), rs1, x),
+        Instruction::Store(w, rd, rs1, x) => long_word(3, rd, store_op3(w), rs1, x),
+        Instruction::Shift(o, rd, rs1, x) => shift_word(rd, shift_op3(o), rs1, x),
+    }
 }
 
 // ---- conditions

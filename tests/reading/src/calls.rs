@@ -1,14 +1,19 @@
-//! Random calls of all five functions of the C interface, each with this reading's answer. Most are those of
-//! `random`; the others are there for lengths and bytes that no loader would lend.
+//! Random calls of all functions of the C interface, each with this reading's answer. Most are those of `random`; the
+//! others are there for lengths and bytes that no loader would lend. Calls of the reader and writer of words are a
+//! stream of their own.
 
-use crate::files::{new_begin_case, new_run_case, old_begin_case, old_run_case, translate_case};
+use crate::files::{
+    new_begin_case, new_run_case, old_begin_case, old_run_case, read_case, translate_case,
+    write_case,
+};
 use crate::new_core::number;
 use crate::random::{
     random_large_program, random_lengths, random_new_run_call, random_old_run_call,
-    random_translate_call, NewRunCall, OldRunCall, Random, TranslateCall,
+    random_translate_call, with_stray_bit, NewRunCall, OldRunCall, Random, TranslateCall,
 };
+use crate::writer::{fields, forms, write, Field, Numbers};
 
-/// A call of any function, as a case of a file.
+/// A call of the translator or a core, as a case of a file.
 pub fn random_case(random: &mut Random) -> Vec<u8> {
     match random.weighted(&[36, 4, 28, 6, 26]) {
         0 => translate_case(&any_translate_call(random)),
@@ -165,4 +170,86 @@ fn address_to_begin_at(random: &mut Random, call: &NewRunCall) -> u32 {
         0 | 1 => call.base.wrapping_add(random.below(120)),
         _ => random.word(),
     }
+}
+
+/// A call of the reader or the writer, as a case of a file.
+pub fn random_word_case(random: &mut Random) -> Vec<u8> {
+    if random.chance(40) {
+        read_case(any_word(random))
+    } else {
+        write_case(any_instruction(random))
+    }
+}
+
+/// Known words, the same with an unused bit set or any one bit changed, and any words.
+fn any_word(random: &mut Random) -> u32 {
+    let known = write(fitting_numbers(random)).value;
+    match random.weighted(&[40, 30, 20, 10]) {
+        0 => known,
+        1 => with_stray_bit(random, known),
+        2 => known ^ 1 << random.below(32),
+        _ => random.word(),
+    }
+}
+
+/// Numbers that fit; the same with one or two at the edge of a field, or of another form; and any numbers.
+fn any_instruction(random: &mut Random) -> Numbers {
+    let mut numbers = fitting_numbers(random);
+    match random.weighted(&[30, 35, 15, 15, 5]) {
+        0 => {}
+        1 => put_at_an_edge(random, &mut numbers),
+        2 => {
+            put_at_an_edge(random, &mut numbers);
+            put_at_an_edge(random, &mut numbers);
+        }
+        3 => numbers[0] = random.below(260),
+        _ => numbers.fill_with(|| random.word()),
+    }
+    numbers
+}
+
+/// An instruction that is not refused, with any bytes in numbers that its form does not have.
+fn fitting_numbers(random: &mut Random) -> Numbers {
+    let mut numbers = [0; 6];
+    for number in &mut numbers {
+        let any = random.word();
+        *number = random.pick(&[0, 1, 2, 0x8000_0000, any]);
+    }
+    // Call, Bicc, sethi, the shifts and Ticc have fields of their own.
+    numbers[0] = if random.chance(40) {
+        random.pick(&[64, 2, 4, 165, 166, 167, 186])
+    } else {
+        random.pick(&forms())
+    };
+    let constant = numbers[4] != 0;
+    for field in fields(numbers[0], constant).expect("a form that a word has") {
+        // Of annul and of the mark of a constant every number counts.
+        if field.width > 1 {
+            numbers[field.number] = fitting_number(random, field);
+        }
+    }
+    numbers
+}
+
+/// A number that a field can have, often its least or largest.
+fn fitting_number(random: &mut Random, field: Field) -> u32 {
+    let top = 1 << (field.low + field.width - 1);
+    let any = random.word();
+    let bits = random.pick(&[any, any, 0, !0, top, !top]);
+    field.read(bits)
+}
+
+/// Replaces the number of a field by one of the last that fit it or the first that do not, or that fit some other field.
+fn put_at_an_edge(random: &mut Random, numbers: &mut Numbers) {
+    let fields = fields(numbers[0], numbers[4] != 0).expect("a form that a word has");
+    let field = random.pick(&fields);
+    let other = random.pick(&[4, 5, 7, 13, 22, 30]);
+    let width = if random.chance(70) {
+        field.width
+    } else {
+        other
+    };
+    let (whole, half) = (1u32 << width, 1u32 << (width - 1));
+    let edge = random.pick(&[0, whole, half, half.wrapping_neg()]);
+    numbers[field.number] = edge.wrapping_add_signed(random.between(-2, 1));
 }

@@ -16,6 +16,12 @@ const ANNUL: u32 = 0x2000_0000;
 const CALL: u32 = 0x4000_0000;
 const RETURN: u32 = 0x81C3_E008; // jmpl register 15, constant 8, to register 0
 const LINK: u32 = 0x83C3_E008; // the same to register 1
+const LINK_BY_REGISTER: u32 = 0x83C3_C002; // jmpl registers 15 and 2, to register 1
+const ADD_REGISTER: u32 = 0x8200_4002; // add register 2 to register 1
+const SLL: u32 = 0x8328_6000; // sll register 1 by 0
+const SLL_REGISTER: u32 = 0x8328_4002; // sll register 1 by register 2
+const TN_REGISTER: u32 = 0x81D0_0002; // tn of registers 0 and 2
+const CONSTANT: u32 = 1 << 13;
 const ILLEGAL: u32 = 0;
 const UNIMP: u32 = 12; // as gcc puts it behind the call of a function that returns 12 bytes
 const OTHER: u32 = 0x0040_0000; // illegal too, but its op2 is not 0
@@ -510,6 +516,76 @@ fn forbidden_past_a_call() -> Vec<Edge> {
     ]
 }
 
+/// A word that does not transfer, before a ta: known it has records 1 and 5, and the ta one more; else it has a kind 7.
+fn known_or_not(word: u32, known: bool) -> Edge {
+    let answer = if known { (0, 2, 3) } else { (0, 1, 1) };
+    edge(&[word, TA], 0, &[0], answer)
+}
+
+/// 02, N2: "a word with an unused bit set" is illegal. Each bit of the second operand, and bit 29 of a Ticc.
+fn unused_bits() -> Vec<Edge> {
+    // the word, and how many low bits its operand has
+    let operands = [
+        (ADD_REGISTER, 5),
+        (ADD, 13),
+        (SLL_REGISTER, 5),
+        (SLL, 5),
+        (TN_REGISTER, 5),
+        (TN, 7),
+    ];
+    let mut edges = vec![];
+    for (word, used) in operands {
+        edges.extend((0..13).map(|bit| known_or_not(word | 1 << bit, bit < used)));
+    }
+    for word in [TN, TN_REGISTER] {
+        edges.push(known_or_not(word, true));
+        edges.push(known_or_not(word | 1 << 29, false));
+    }
+    // a ta has one record either way, kind 1 or kind 7
+    edges.push(edge(&[TA, TA], 0, &[0], (0, 1, 1)));
+    edges.push(edge(&[TA | 1 << 29, TA], 0, &[0], (0, 1, 1)));
+    edges
+}
+
+/// The same with one bit of 12 to 5 for every other form of op 2 and 3, with a register and with a constant: only srl and
+/// sra have the bit unused with a constant too. A sethi has none.
+fn unused_bits_by_form() -> Vec<Edge> {
+    let arithmetic = (0..9).chain([12]).flat_map(|op3| [op3, op3 + 16]);
+    let op_2 = arithmetic.map(|op3| 2 << 30 | op3 << 19);
+    let op_3 = [0, 1, 2, 4, 5, 6, 9, 10].map(|op3| 3 << 30 | op3 << 19);
+    let shifts = [38, 39].map(|op3| 2 << 30 | op3 << 19);
+    let mut edges = vec![];
+    for (position, word) in op_2.chain(op_3).chain(shifts).enumerate() {
+        let bit = 1 << (5 + position % 8);
+        let by_constant = !shifts.contains(&word);
+        edges.push(known_or_not(word, true));
+        edges.push(known_or_not(word | bit, false));
+        edges.push(known_or_not(word | bit | CONSTANT, by_constant));
+    }
+    edges.extend((5..13).map(|bit| known_or_not(NOP | 1 << bit, true)));
+    edges
+}
+
+/// A jmpl with an unused bit set: as held word, where a known one is refused with 4, it has one kind 7; by itself it holds
+/// nothing and links nothing, also before an unimp. With a constant it has no unused bit.
+fn unused_bits_of_jmpl() -> Vec<Edge> {
+    let mut edges = vec![
+        held(LINK_BY_REGISTER, (4, 0x2004, 0)),
+        edge(&[LINK_BY_REGISTER, ADD, UNIMP, TA], 0, &[0], (0, 4, 6)),
+    ];
+    for bit in 5..13 {
+        let stray = LINK_BY_REGISTER | 1 << bit;
+        edges.push(held(stray, (0, 2, 3)));
+        edges.push(held(LINK | 1 << bit, (4, 0x2004, 0)));
+        edges.push(edge(&[stray, ADD, UNIMP, TA], 0, &[0], (0, 1, 1)));
+        // in the slot of a branch: plain 0 and (4, 12), one kind 7
+        edges.push(edge(&[over(BA, 3), stray, ADD, TA], 0, &[0], (0, 2, 2)));
+    }
+    // a held Ticc 8 with bit 29: one kind 7
+    edges.push(held(TA | 1 << 29, (0, 2, 3)));
+    edges
+}
+
 /// Refusals 5 and 6 on 01's listing, which has three places and four records.
 fn short_buffers() -> Vec<Edge> {
     let lend = |places, records, answer| edge(&LISTED, 0, &[0], answer).lent(places, records);
@@ -646,6 +722,9 @@ pub fn edges() -> Vec<Edge> {
         record_calls(),
         record_calls_across_the_top(),
         forbidden_past_a_call(),
+        unused_bits(),
+        unused_bits_by_form(),
+        unused_bits_of_jmpl(),
         short_buffers(),
         across_the_top(),
         most_places(),
@@ -679,6 +758,9 @@ pub fn listings() -> Vec<(Vec<u8>, &'static str)> {
         (bytes([over(BE, 3), ADD, TA | 1, TA]), "place address next kind record\n0 0 4 0 0\n1 4 8 0 2\n2 4 12 1 4\n3 8 12 0 6\n4 12 16 0 7\nkind first second\n4 1 4\n5 2 0\n1 2181062657 0\n5 6 0\n1 2181062657 0\n5 7 0\n1 2446336001 0\n1 2446336000 0\n"),
         (bytes([over(BE | ANNUL, 3), ADD, TA | 1, TA]), "place address next kind record\n0 0 4 0 0\n1 8 12 0 2\n2 4 12 1 3\n3 12 16 0 5\nkind first second\n4 1 3\n5 2 0\n1 2446336001 0\n1 2181062657 0\n5 5 0\n1 2446336000 0\n"),
         (bytes([CALL | 4, NOP, UNIMP, TA, TA | 1]), "place address next kind record\n0 0 4 0 0\n1 4 16 1 2\n2 8 12 0 4\n3 12 16 0 5\n4 16 20 0 6\nkind first second\n2 0 0\n5 2 0\n1 16777216 0\n5 6 0\n7 3 8\n1 2446336000 0\n1 2446336001 0\n"),
+        (bytes([TA | 1 << 29, TA]), "place address next kind record\n0 0 4 0 0\nkind first second\n7 3 0\n"),
+        (bytes([RETURN, LINK_BY_REGISTER | 1 << 5]), "place address next kind record\n0 0 4 0 0\n1 4 0 2 2\nkind first second\n3 2177097736 0\n5 2 0\n7 3 4\n"),
+        (bytes([RETURN, LINK_BY_REGISTER]), "refused detail\n4 4\n"),
         (zeros(0), "refused detail\n1 0\n"),
         (zeros(1), "refused detail\n1 1\n"),
         (zeros(3), "refused detail\n1 3\n"),

@@ -9,6 +9,7 @@ use crate::new_core::Program;
 use crate::old_core::Image;
 use crate::random::{NewRunCall, OldRunCall, TranslateCall};
 use crate::translator::bytes;
+use crate::writer::{read, write, Numbers};
 
 fn add_areas(case: &mut Vec<u8>, areas: &[&[u8]]) {
     for area in areas {
@@ -114,6 +115,23 @@ pub fn new_run_case(mut call: NewRunCall) -> Vec<u8> {
     let (state, data) = (&mut call.state, &mut call.data);
     new_run_call(program, call.data_base, state, data, call.count);
     add_areas(&mut case, &[state, data]);
+    case
+}
+
+/// A word that is read, and what it reads as written again.
+pub fn read_case(word: u32) -> Vec<u8> {
+    let written = write(read(word));
+    let mut case = bytes([0x574F_5244, word]);
+    case.extend(bytes(read(word)));
+    case.extend(bytes([written.number, written.value]));
+    case
+}
+
+pub fn write_case(instruction: Numbers) -> Vec<u8> {
+    let written = write(instruction);
+    let mut case = bytes([0x494E_5354]);
+    case.extend(bytes(instruction));
+    case.extend(bytes([written.number, written.value]));
     case
 }
 

@@ -6,6 +6,7 @@
 
 pub mod machine;
 pub mod words;
+pub mod writer;
 
 pub mod old_core;
 

@@ -5,7 +5,8 @@
 //! reading claim SEED COUNT     demand 3's claim on COUNT random accepted images
 //! reading census SEED COUNT    what the random cases meet
 //! reading file KIND SEED COUNT random cases as a file of numbers; KIND is translate, old_core (runs),
-//!                              new_core (runs) or calls (all five functions, mixed)
+//!                              new_core (runs), calls (all five functions of translator and cores, mixed)
+//!                              or words (read and written)
 //! reading file edges           calls of the translator at the edges of its answers, as such a file
 //! reading file listings        inputs of the listing program with what it prints, as such a file
 //! reading listing              01's listing of the image on standard input
@@ -89,7 +90,7 @@ fn main() -> ExitCode {
         ["claim", seed, count] => number(seed).zip(number(count)).map(|(s, c)| claim(s, c)),
         ["census", seed, count] => number(seed).zip(number(count)).map(|(s, c)| census(s, c)),
         ["file", kind, seed, count]
-            if ["translate", "old_core", "new_core", "calls"].contains(&kind) =>
+            if ["translate", "old_core", "new_core", "calls", "words"].contains(&kind) =>
         {
             number(seed)
                 .zip(number(count))
@@ -115,7 +116,7 @@ fn main() -> ExitCode {
             eprintln!("usage: reading cases SEED COUNT");
             eprintln!("       reading claim SEED COUNT");
             eprintln!("       reading census SEED COUNT");
-            eprintln!("       reading file translate|old_core|new_core|calls SEED COUNT");
+            eprintln!("       reading file translate|old_core|new_core|calls|words SEED COUNT");
             eprintln!("       reading file edges|listings");
             eprintln!("       reading listing < IMAGE");
             eprintln!("       reading translate BASE ENTRY... < IMAGE");
@@ -385,6 +386,7 @@ fn file(kind: &str, seed: u64, count: u64) -> io::Result<ExitCode> {
             "translate" => translate_case(&random_translate_call(&mut random)),
             "old_core" => old_run_case(random_old_run_call(&mut random)),
             "new_core" => new_run_case(random_new_run_call(&mut random)),
+            "words" => calls::random_word_case(&mut random),
             _ => calls::random_case(&mut random),
         };
         out.write_all(&case)?;

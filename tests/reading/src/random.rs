@@ -192,19 +192,44 @@ fn number_register(random: &mut Random) -> u32 {
     }
 }
 
-/// A register, sometimes with unused bits set beside it, or a constant.
+/// A register or a constant.
 fn any_operand(random: &mut Random) -> u32 {
     if random.chance(50) {
-        let unused = if random.chance(20) {
-            random.below(256) << 5
-        } else {
-            0
-        };
-        unused | number_register(random)
+        number_register(random)
     } else if random.chance(60) {
         constant(random.between(-8, 8))
     } else {
         constant(random.between(-4096, 4095))
+    }
+}
+
+/// A register or an unsigned constant below the limit, of a shift or a Ticc.
+fn unsigned_operand(random: &mut Random, limit: u32) -> u32 {
+    if random.chance(50) {
+        number_register(random)
+    } else {
+        constant(random.below(limit) as i32)
+    }
+}
+
+/// A word of op 2 or 3 with one of the bits set that 02 calls unused in some form: with a register, but shifts and Ticc
+/// also with a constant. Other words stay. (Which bits are unused is the reader's to say, not asked here.)
+pub(crate) fn with_stray_bit(random: &mut Random, word: u32) -> u32 {
+    let (op, op3) = (word >> 30, (word >> 19) & 63);
+    match (op, op3) {
+        (0 | 1, _) => word,
+        (2, 0x3A) if random.chance(30) => word | 1 << 29,
+        (2, 0x25 | 0x26 | 0x27 | 0x3A) => word | 1 << random.between(5, 12),
+        _ => word & !0x3FE0 | 1 << random.between(5, 12),
+    }
+}
+
+/// A few words get an unused bit.
+fn seldom_stray(random: &mut Random, word: u32) -> u32 {
+    if random.chance(3) {
+        with_stray_bit(random, word)
+    } else {
+        word
     }
 }
 
@@ -237,6 +262,11 @@ pub(crate) fn random_call(random: &mut Random, position: i32, count: i32) -> u32
 }
 
 fn random_word(random: &mut Random, style: &[u32; 9], position: i32, program: &Program) -> u32 {
+    let word = clean_word(random, style, position, program);
+    seldom_stray(random, word)
+}
+
+fn clean_word(random: &mut Random, style: &[u32; 9], position: i32, program: &Program) -> u32 {
     let count = program.words.len() as i32;
     match random.weighted(style) {
         BICC => {
@@ -256,10 +286,8 @@ fn random_word(random: &mut Random, style: &[u32; 9], position: i32, program: &P
             } else {
                 random.below(16)
             };
-            let unused = random.chance(10) as u32;
             let rs1 = number_register(random);
-            let operand = any_operand(random);
-            (unused << 29) | format_3(2, 0x3A, condition, rs1, operand)
+            format_3(2, 0x3A, condition, rs1, unsigned_operand(random, 128))
         }
         ILLEGAL => match random.weighted(&[30, 20, 30, 20]) {
             0 => 0,
@@ -280,19 +308,20 @@ fn random_word(random: &mut Random, style: &[u32; 9], position: i32, program: &P
             _ => random.word(),
         },
         ARITHMETIC => {
-            let op3 = if random.chance(15) {
-                random.pick(&[0x25, 0x26, 0x27])
-            } else {
-                let operation = random.pick(&[0, 1, 2, 3, 4, 5, 6, 7, 8, 12]);
-                operation | (random.below(2) << 4)
-            };
             let rd = if random.chance(10) {
                 random.pick(&ADDRESS_REGISTERS)
             } else {
                 number_register(random)
             };
             let rs1 = number_register(random);
-            format_3(2, op3, rd, rs1, any_operand(random))
+            if random.chance(15) {
+                let op3 = random.pick(&[0x25, 0x26, 0x27]);
+                format_3(2, op3, rd, rs1, unsigned_operand(random, 32))
+            } else {
+                let operation = random.pick(&[0, 1, 2, 3, 4, 5, 6, 7, 8, 12]);
+                let op3 = operation | (random.below(2) << 4);
+                format_3(2, op3, rd, rs1, any_operand(random))
+            }
         }
         LOAD => {
             let op3 = random.pick(&[0, 0, 0, 1, 2, 9, 10]);
@@ -391,7 +420,8 @@ fn make_blocks(random: &mut Random, program: &mut Program) {
         let slot = jump + 1;
         for at in position..=slot.min(count - 1) {
             let word = if at == jump {
-                random_jmpl(random, program)
+                let jmpl = random_jmpl(random, program);
+                seldom_stray(random, jmpl)
             } else if at == slot {
                 random_word(random, &HARMLESS, at, program)
             } else {
@@ -519,15 +549,15 @@ pub fn random_large_program(random: &mut Random) -> Program {
     program
 }
 
-/// Replaces the word of each refusal 4 by one that a held place may have.
+/// Replaces the word of each refusal 4 by one that a held place may have; some jmpl by one with an unused bit set.
 pub(crate) fn allow_held_places(random: &mut Random, program: &mut Program) {
     while let Err(Refusal::ForbiddenWord(address)) = program.translate() {
         let position = (address.wrapping_sub(program.base) / 4) as i32;
-        let word = if random.chance(15) {
+        let word = match random.weighted(&[15, 15, 70]) {
             // bn without annul
-            (2 << 22) | random.below(1 << 22)
-        } else {
-            random_word(random, &HARMLESS, position, program)
+            0 => (2 << 22) | random.below(1 << 22),
+            1 => with_stray_bit(random, program.words[position as usize]),
+            _ => random_word(random, &HARMLESS, position, program),
         };
         program.words[position as usize] = word;
     }
@@ -808,12 +838,25 @@ pub fn random_new_run_call(random: &mut Random) -> NewRunCall {
 /// Damages records and place table.
 pub fn damage_some(random: &mut Random, records: &mut Vec<u8>, places: &mut Vec<u8>) {
     for _ in 0..random.pick(&[1, 1, 2, 4]) {
-        if random.chance(70) {
-            damage(random, records, 12);
-        } else {
-            damage(random, places, 16);
+        match random.weighted(&[50, 20, 30]) {
+            0 => damage(random, records, 12),
+            1 => stray_in_record(random, records),
+            _ => damage(random, places, 16),
         }
     }
+}
+
+/// Sets an unused bit in the word of a record of kind 1 or 3.
+fn stray_in_record(random: &mut Random, records: &mut [u8]) {
+    let with_words: Vec<usize> = (0..records.len() / 12)
+        .filter(|record| [1, 3].contains(&number(records, 3 * record)))
+        .collect();
+    if with_words.is_empty() {
+        return;
+    }
+    let record = random.pick(&with_words);
+    let word = with_stray_bit(random, number(records, 3 * record + 1));
+    records[12 * record + 4..12 * record + 8].copy_from_slice(&word.to_be_bytes());
 }
 
 /// Has a row name another first record: another row's, or one at the end of the records or past it.

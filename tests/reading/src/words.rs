@@ -122,9 +122,39 @@ fn signed(field: u32, width: u32) -> u32 {
     }
 }
 
-/// "Bits 31 and 30 of a word choose its format, and the other fields are cut from it as V8 draws
-/// them." "All others are illegal. Unused bits are ignored." An illegal word gives `None`.
+/// "All others are illegal." 02, N2: "takes a word with an unused bit set as illegal". An illegal word
+/// gives `None`.
 pub fn decode(word: u32) -> Option<Instruction> {
+    let instruction = decode_fields(word)?;
+    (word & unused_bits(instruction) == 0).then_some(instruction)
+}
+
+/// 02, N2: "bits 12 to 5 when the second operand is a register, or a shift's constant; bits 12 to 7 of a
+/// Ticc with a constant; bit 29 of a Ticc".
+fn unused_bits(instruction: Instruction) -> u32 {
+    const BITS_12_TO_5: u32 = 0x1FE0;
+    const BITS_12_TO_7: u32 = 0x1F80;
+    const BIT_29: u32 = 1 << 29;
+    match instruction {
+        Instruction::Call { .. } | Instruction::Sethi { .. } | Instruction::Bicc { .. } => 0,
+        Instruction::Shift { .. } => BITS_12_TO_5,
+        Instruction::Ticc { operand, .. } => match operand {
+            Operand::Register(_) => BIT_29 | BITS_12_TO_5,
+            Operand::Constant(_) => BIT_29 | BITS_12_TO_7,
+        },
+        Instruction::Arithmetic { operand, .. }
+        | Instruction::Jmpl { operand, .. }
+        | Instruction::Load { operand, .. }
+        | Instruction::Store { operand, .. } => match operand {
+            Operand::Register(_) => BITS_12_TO_5,
+            Operand::Constant(_) => 0,
+        },
+    }
+}
+
+/// "Bits 31 and 30 of a word choose its format, and the other fields are cut from it as V8 draws
+/// them." Unused bits are not looked at.
+fn decode_fields(word: u32) -> Option<Instruction> {
     match bits(word, 31, 30) {
         // Format 1: op, disp30.
         1 => Some(Instruction::Call {
@@ -383,11 +413,27 @@ mod tests {
         assert_eq!(decode(0), None);
     }
 
-    /// Unused bits: asi with a register, and bit 29 of a Ticc.
+    /// Which bits a known word may not have, set one at a time: in an add, a ld and a jmpl with a register, in a
+    /// shift with a register and with a constant, in a Ticc with each.
     #[test]
-    fn unused_bits() {
-        assert_eq!(decode(0x8200_5FE2), decode(0x8200_4002));
-        assert_eq!(decode(0xB1D0_2000), decode(0x91D0_2000));
+    fn each_unused_bit_is_illegal() {
+        let words: [(u32, &[u32]); 9] = [
+            (0x8200_4002, &[5, 6, 7, 8, 9, 10, 11, 12]), // add
+            (0xC200_4002, &[5, 6, 7, 8, 9, 10, 11, 12]), // ld
+            (0x83C0_4002, &[5, 6, 7, 8, 9, 10, 11, 12]), // jmpl
+            (0x8328_4002, &[5, 6, 7, 8, 9, 10, 11, 12]), // sll
+            (0x8328_6000, &[5, 6, 7, 8, 9, 10, 11, 12]),
+            (0x91D0_0002, &[5, 6, 7, 8, 9, 10, 11, 12, 29]), // ta
+            (0x91D0_2000, &[7, 8, 9, 10, 11, 12, 29]),
+            (0x8200_6000, &[]), // add with a constant
+            (0x0300_0000, &[]), // sethi
+        ];
+        for (word, unused) in words {
+            for bit in (0..13).chain([29]) {
+                let known = !unused.contains(&bit);
+                assert_eq!(decode(word | 1 << bit).is_some(), known, "{word:x}, {bit}");
+            }
+        }
     }
 
     /// How many of the op, op2 and op3 values are known: 1 call, 2 of format 2, 25 and 8 of format 3.

@@ -9,6 +9,7 @@ use reading::new_core::Program;
 use reading::old_core::Image;
 use reading::state::{NEW_STATE, OLD_STATE};
 use reading::translator::Answer;
+use reading::writer::{read, write, Numbers as Six};
 
 /// A file of numbers of four bytes, big-endian, read from its start.
 struct Numbers {
@@ -165,6 +166,31 @@ fn new_core() {
         let count = u16::try_from(count).unwrap();
         new_run_call(program, data_base, &mut state, &mut data, count);
         compare(&state, &expected_state, &data, &expected_data)
+    });
+}
+
+/// Words that are read and written again, and instructions that are written.
+#[test]
+fn words() {
+    all_cases("words.bin", |numbers| {
+        let word = match numbers.next() {
+            0x574F_5244 => Some(numbers.next()),
+            mark => {
+                assert_eq!(mark, 0x494E_5354);
+                None
+            }
+        };
+        let instruction: Six = std::array::from_fn(|_| numbers.next());
+        let expected = (numbers.next(), numbers.next());
+        let here = word.map_or(instruction, read);
+        if here != instruction {
+            return Err(format!("reads as {instruction:?}, here {here:?}"));
+        }
+        let written = write(instruction);
+        if (written.number, written.value) != expected {
+            return Err(format!("written {expected:?}, here {written:?}"));
+        }
+        Ok(())
     });
 }
 

@@ -21,6 +21,12 @@ enum-told-2 c = search needs
 check-requires-2 : tie.Need-check-requires-2
 check-requires-2 c κs = search needs
 
+enum-told-3 : tie.Need-enum-told-3
+enum-told-3 c = search needs
+
+check-requires-3 : tie.Need-check-requires-3
+check-requires-3 c κs = search needs
+
 returns : tie.Need-returns
 unfolding found
 returns c = rw (c .before .before .kind .given .1) (c .check-run .ensures)
@@ -33,6 +39,10 @@ returns-3 : tie.Need-returns-3
 unfolding found
 returns-3 c = rw (c .before .enum-told2 .given .1) (c .check2 .ensures)
 
+returns-4 : tie.Need-returns-4
+unfolding found
+returns-4 c = rw (c .before .enum-told3 .given .1) (c .check3 .ensures)
+
 pub check-spec : {M : Type 1} → statement M
 check-spec =
     tie.close
@@ -43,6 +53,9 @@ check-spec =
     check-requires
     enum-told-2
     check-requires-2
+    enum-told-3
+    check-requires-3
     returns
     returns-2
-    returns-3)
+    returns-3
+    returns-4)

@@ -1,11 +1,9 @@
-use Rattle.machine.proofs.Effects.{effects-end, after-effect}
 use Rattle.machine.specs.Ends.{within}
-use Rattle.machine.specs.Effect.{machine, effectOf, Machine}
+use Rattle.machine.specs.Effect.{effectOf}
 use Rattle.model.specs.Places.{mayBeHeld}
 use Rattle.model.specs.OldCore.{transferOf}
-use Rattle.model.specs.NewCore.{following, fit, new}
+use Rattle.model.specs.NewCore.{fit}
 use Rattle.new_core.proofs.Records.{fits}
-use mathlib.Core.Path.{_∙_}
 use borrow.Author.Needs.{needs}
 use Rattle.new_core.proofs.do_word.Statement.{statement}
 use Rattle.new_core.proofs.do_word.Tie as tie
@@ -34,11 +32,8 @@ enum-known-i-3 c = search needs
 do-branch-requires : tie.Need-do-branch-requires
 do-branch-requires c κs = search needs
 
-perform-requires : tie.Need-perform-requires
-perform-requires c κs = search needs
-
-finish-requires : tie.Need-finish-requires
-finish-requires c κs = search needs
+do-effect-requires : tie.Need-do-effect-requires
+do-effect-requires c κs = search needs
 
 returns : tie.Need-returns
 unfolding fit transferOf
@@ -60,11 +55,8 @@ same-length : tie.Need-same-length
 same-length c = search needs
 
 returns-5 : tie.Need-returns-5
-returns-5 c = let done = c .before .before .before in
-    let k = done .before .before .before .before .before .before .args in
-    let m = machine (k .regs .now) (k .c .flags .nzvc) (k .area .now) in
-    rw (fits (k .i) (done .before .before .before .match .keys5)) (c .finish .ensures _ _
-    ∙ after-effect (λ (x : Machine). new x (k .c .at .0) (k .c .held .0)) (following (k .c .at .0) (k .c .held .0)) _ _ _ _ _ _ _ _ (effects-end (k .db) (k .i) m) (done .perform .ensures))
+returns-5 c = let done = c .before .before in
+    rw (fits (done .before .before .before .before .before .args .i) (done .before .before .before .match .keys5)) (done .do-effect .ensures)
 
 pub do-word-spec : {M : Type 1} → statement M
 do-word-spec =
@@ -78,8 +70,7 @@ do-word-spec =
     bad-requires-3
     enum-known-i-3
     do-branch-requires
-    perform-requires
-    finish-requires
+    do-effect-requires
     returns
     returns-2
     returns-3

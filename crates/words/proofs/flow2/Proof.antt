@@ -1,117 +1,118 @@
-use Rattle.words.specs.Reader.{format2Of}
+use native.Mathlib.Omega.{arith}
+use mathlib.Core.Path.{ap}
+use Rattle.words.specs.Reader.{format2Of, unusedSet, strictly}
 use Rattle.words.specs.Flow.{flowOf}
 use Rattle.words.proofs.Reader.{no-row2}
-use mathlib.Core.Path.{ap}
-use borrow.Author.Needs.{needs}
+use Rattle.words.proofs.Strict.{beside-none, shift-none}
 use Rattle.words.proofs.flow2.Statement.{statement}
 use Rattle.words.proofs.flow2.Tie as tie
 
 trap-flow-requires : tie.Need-trap-flow-requires
-trap-flow-requires c κs = search needs
+trap-flow-requires c κs = beside-none _ _ (c .before .pre)
 
 returns : tie.Need-returns
-unfolding flowOf format2Of
-returns c = λ rs1 x. rw (c .match .keys1)
+unfolding flowOf format2Of strictly unusedSet
+returns c = λ rs1 x. rw (c .match .keys1, beside-none _ _ (c .before .pre))
 
 returns-2 : tie.Need-returns-2
-unfolding flowOf format2Of
-returns-2 c = λ rs1 x. rw (c .match .keys2)
+unfolding flowOf format2Of strictly unusedSet
+returns-2 c = λ rs1 x. rw (c .match .keys2, beside-none _ _ (c .before .pre))
 
 returns-3 : tie.Need-returns-3
-unfolding flowOf format2Of
-returns-3 c = λ rs1 x. rw (c .match .keys3)
+unfolding flowOf format2Of strictly unusedSet
+returns-3 c = λ rs1 x. rw (c .match .keys3, beside-none _ _ (c .before .pre))
 
 returns-4 : tie.Need-returns-4
-unfolding flowOf format2Of
-returns-4 c = λ rs1 x. rw (c .match .keys4)
+unfolding flowOf format2Of strictly unusedSet
+returns-4 c = λ rs1 x. rw (c .match .keys4, beside-none _ _ (c .before .pre))
 
 returns-5 : tie.Need-returns-5
-unfolding flowOf format2Of
-returns-5 c = λ rs1 x. rw (c .match .keys5)
+unfolding flowOf format2Of strictly unusedSet
+returns-5 c = λ rs1 x. rw (c .match .keys5, beside-none _ _ (c .before .pre))
 
 returns-6 : tie.Need-returns-6
-unfolding flowOf format2Of
-returns-6 c = λ rs1 x. rw (c .match .keys6)
+unfolding flowOf format2Of strictly unusedSet
+returns-6 c = λ rs1 x. rw (c .match .keys6, beside-none _ _ (c .before .pre))
 
 returns-7 : tie.Need-returns-7
-unfolding flowOf format2Of
-returns-7 c = λ rs1 x. rw (c .match .keys7)
+unfolding flowOf format2Of strictly unusedSet
+returns-7 c = λ rs1 x. rw (c .match .keys7, beside-none _ _ (c .before .pre))
 
 returns-8 : tie.Need-returns-8
-unfolding flowOf format2Of
-returns-8 c = λ rs1 x. rw (c .match .keys8)
+unfolding flowOf format2Of strictly unusedSet
+returns-8 c = λ rs1 x. rw (c .match .keys8, beside-none _ _ (c .before .pre))
 
 returns-9 : tie.Need-returns-9
-unfolding flowOf format2Of
-returns-9 c = λ rs1 x. rw (c .match .keys9)
+unfolding flowOf format2Of strictly unusedSet
+returns-9 c = λ rs1 x. rw (c .match .keys9, beside-none _ _ (c .before .pre))
 
 returns-10 : tie.Need-returns-10
-unfolding flowOf format2Of
-returns-10 c = λ rs1 x. rw (c .match .keys10)
+unfolding flowOf format2Of strictly unusedSet
+returns-10 c = λ rs1 x. rw (c .match .keys10, beside-none _ _ (c .before .pre))
 
 returns-11 : tie.Need-returns-11
-unfolding flowOf format2Of
-returns-11 c = λ rs1 x. rw (c .match .keys11)
+unfolding flowOf format2Of strictly unusedSet
+returns-11 c = λ rs1 x. rw (c .match .keys11, beside-none _ _ (c .before .pre))
 
 returns-12 : tie.Need-returns-12
-unfolding flowOf format2Of
-returns-12 c = λ rs1 x. rw (c .match .keys12)
+unfolding flowOf format2Of strictly unusedSet
+returns-12 c = λ rs1 x. rw (c .match .keys12, beside-none _ _ (c .before .pre))
 
 returns-13 : tie.Need-returns-13
-unfolding flowOf format2Of
-returns-13 c = λ rs1 x. rw (c .match .keys13)
+unfolding flowOf format2Of strictly unusedSet
+returns-13 c = λ rs1 x. rw (c .match .keys13, beside-none _ _ (c .before .pre))
 
 returns-14 : tie.Need-returns-14
-unfolding flowOf format2Of
-returns-14 c = λ rs1 x. rw (c .match .keys14)
+unfolding flowOf format2Of strictly unusedSet
+returns-14 c = λ rs1 x. rw (c .match .keys14, beside-none _ _ (c .before .pre))
 
 returns-15 : tie.Need-returns-15
-unfolding flowOf format2Of
-returns-15 c = λ rs1 x. rw (c .match .keys15)
+unfolding flowOf format2Of strictly unusedSet
+returns-15 c = λ rs1 x. rw (c .match .keys15, beside-none _ _ (c .before .pre))
 
 returns-16 : tie.Need-returns-16
-unfolding flowOf format2Of
-returns-16 c = λ rs1 x. rw (c .match .keys16)
+unfolding flowOf format2Of strictly unusedSet
+returns-16 c = λ rs1 x. rw (c .match .keys16, beside-none _ _ (c .before .pre))
 
 returns-17 : tie.Need-returns-17
-unfolding flowOf format2Of
-returns-17 c = λ rs1 x. rw (c .match .keys17)
+unfolding flowOf format2Of strictly unusedSet
+returns-17 c = λ rs1 x. rw (c .match .keys17, beside-none _ _ (c .before .pre))
 
 returns-18 : tie.Need-returns-18
-unfolding flowOf format2Of
-returns-18 c = λ rs1 x. rw (c .match .keys18)
+unfolding flowOf format2Of strictly unusedSet
+returns-18 c = λ rs1 x. rw (c .match .keys18, beside-none _ _ (c .before .pre))
 
 returns-19 : tie.Need-returns-19
-unfolding flowOf format2Of
-returns-19 c = λ rs1 x. rw (c .match .keys19)
+unfolding flowOf format2Of strictly unusedSet
+returns-19 c = λ rs1 x. rw (c .match .keys19, beside-none _ _ (c .before .pre))
 
 returns-20 : tie.Need-returns-20
-unfolding flowOf format2Of
-returns-20 c = λ rs1 x. rw (c .match .keys20)
+unfolding flowOf format2Of strictly unusedSet
+returns-20 c = λ rs1 x. rw (c .match .keys20, beside-none _ _ (c .before .pre))
 
 returns-21 : tie.Need-returns-21
-unfolding flowOf format2Of
-returns-21 c = λ rs1 x. rw (c .match .keys21)
+unfolding flowOf format2Of strictly unusedSet
+returns-21 c = λ rs1 x. rw (c .match .keys21, shift-none _ _ (c .before .pre) (omega (arith, c .match .keys21)) (omega (arith, c .match .keys21)))
 
 returns-22 : tie.Need-returns-22
-unfolding flowOf format2Of
-returns-22 c = λ rs1 x. rw (c .match .keys22)
+unfolding flowOf format2Of strictly unusedSet
+returns-22 c = λ rs1 x. rw (c .match .keys22, shift-none _ _ (c .before .pre) (omega (arith, c .match .keys22)) (omega (arith, c .match .keys22)))
 
 returns-23 : tie.Need-returns-23
-unfolding flowOf format2Of
-returns-23 c = λ rs1 x. rw (c .match .keys23)
+unfolding flowOf format2Of strictly unusedSet
+returns-23 c = λ rs1 x. rw (c .match .keys23, shift-none _ _ (c .before .pre) (omega (arith, c .match .keys23)) (omega (arith, c .match .keys23)))
 
 returns-24 : tie.Need-returns-24
-unfolding flowOf format2Of
-returns-24 c = λ rs1 x. rw (c .match .keys24)
+unfolding flowOf format2Of strictly unusedSet
+returns-24 c = λ rs1 x. rw (c .match .keys24, beside-none _ _ (c .before .pre))
 
 returns-25 : tie.Need-returns-25
 unfolding format2Of
 returns-25 c = λ rs1 x. rw (c .before .match .keys25) (c .trap-flow .ensures rs1 x)
 
 returns-26 : tie.Need-returns-26
-unfolding flowOf
-returns-26 c = λ rs1 x. ap flowOf (no-row2 _ _ _ rs1 x (c .match .rest))
+unfolding flowOf strictly unusedSet
+returns-26 c = λ rs1 x. ap (λ i. flowOf (strictly (c .before .args .word) i)) (no-row2 _ _ _ rs1 x (c .match .rest))
 
 pub flow2-spec : {M : Type 1} → statement M
 flow2-spec =

@@ -1,115 +1,218 @@
-use Rattle.words.specs.Reader.{format2Of}
+use mathlib.Core.Path.{ap}
+use Rattle.words.specs.Reader.{format2Of, unusedSet, strictly}
 use Rattle.words.proofs.Reader.{no-row2}
+use borrow.Author.Needs.{needs}
 use Rattle.words.proofs.format2.Statement.{statement}
 use Rattle.words.proofs.format2.Tie as tie
 
+arithmetic-requires : tie.Need-arithmetic-requires
+arithmetic-requires c κs = search needs
+
+arithmetic-requires-2 : tie.Need-arithmetic-requires-2
+arithmetic-requires-2 c κs = search needs
+
+arithmetic-requires-3 : tie.Need-arithmetic-requires-3
+arithmetic-requires-3 c κs = search needs
+
+arithmetic-requires-4 : tie.Need-arithmetic-requires-4
+arithmetic-requires-4 c κs = search needs
+
+arithmetic-requires-5 : tie.Need-arithmetic-requires-5
+arithmetic-requires-5 c κs = search needs
+
+arithmetic-requires-6 : tie.Need-arithmetic-requires-6
+arithmetic-requires-6 c κs = search needs
+
+arithmetic-requires-7 : tie.Need-arithmetic-requires-7
+arithmetic-requires-7 c κs = search needs
+
+arithmetic-requires-8 : tie.Need-arithmetic-requires-8
+arithmetic-requires-8 c κs = search needs
+
+arithmetic-requires-9 : tie.Need-arithmetic-requires-9
+arithmetic-requires-9 c κs = search needs
+
+arithmetic-requires-10 : tie.Need-arithmetic-requires-10
+arithmetic-requires-10 c κs = search needs
+
+arithmetic-requires-11 : tie.Need-arithmetic-requires-11
+arithmetic-requires-11 c κs = search needs
+
+arithmetic-requires-12 : tie.Need-arithmetic-requires-12
+arithmetic-requires-12 c κs = search needs
+
+arithmetic-requires-13 : tie.Need-arithmetic-requires-13
+arithmetic-requires-13 c κs = search needs
+
+arithmetic-requires-14 : tie.Need-arithmetic-requires-14
+arithmetic-requires-14 c κs = search needs
+
+arithmetic-requires-15 : tie.Need-arithmetic-requires-15
+arithmetic-requires-15 c κs = search needs
+
+arithmetic-requires-16 : tie.Need-arithmetic-requires-16
+arithmetic-requires-16 c κs = search needs
+
+arithmetic-requires-17 : tie.Need-arithmetic-requires-17
+arithmetic-requires-17 c κs = search needs
+
+arithmetic-requires-18 : tie.Need-arithmetic-requires-18
+arithmetic-requires-18 c κs = search needs
+
+arithmetic-requires-19 : tie.Need-arithmetic-requires-19
+arithmetic-requires-19 c κs = search needs
+
+arithmetic-requires-20 : tie.Need-arithmetic-requires-20
+arithmetic-requires-20 c κs = search needs
+
+shift-requires : tie.Need-shift-requires
+shift-requires c κs = search needs
+
+shift-requires-2 : tie.Need-shift-requires-2
+shift-requires-2 c κs = search needs
+
+shift-requires-3 : tie.Need-shift-requires-3
+shift-requires-3 c κs = search needs
+
+jump-requires : tie.Need-jump-requires
+jump-requires c κs = search needs
+
+trap-requires : tie.Need-trap-requires
+trap-requires c κs = search needs
+
 returns : tie.Need-returns
 unfolding format2Of
-returns c = rw (c .match .keys1)
+returns c = rw (c .before .match .keys1) (c .arithmetic .ensures)
 
 returns-2 : tie.Need-returns-2
 unfolding format2Of
-returns-2 c = rw (c .match .keys2)
+returns-2 c = rw (c .before .match .keys2) (c .arithmetic2 .ensures)
 
 returns-3 : tie.Need-returns-3
 unfolding format2Of
-returns-3 c = rw (c .match .keys3)
+returns-3 c = rw (c .before .match .keys3) (c .arithmetic3 .ensures)
 
 returns-4 : tie.Need-returns-4
 unfolding format2Of
-returns-4 c = rw (c .match .keys4)
+returns-4 c = rw (c .before .match .keys4) (c .arithmetic4 .ensures)
 
 returns-5 : tie.Need-returns-5
 unfolding format2Of
-returns-5 c = rw (c .match .keys5)
+returns-5 c = rw (c .before .match .keys5) (c .arithmetic5 .ensures)
 
 returns-6 : tie.Need-returns-6
 unfolding format2Of
-returns-6 c = rw (c .match .keys6)
+returns-6 c = rw (c .before .match .keys6) (c .arithmetic6 .ensures)
 
 returns-7 : tie.Need-returns-7
 unfolding format2Of
-returns-7 c = rw (c .match .keys7)
+returns-7 c = rw (c .before .match .keys7) (c .arithmetic7 .ensures)
 
 returns-8 : tie.Need-returns-8
 unfolding format2Of
-returns-8 c = rw (c .match .keys8)
+returns-8 c = rw (c .before .match .keys8) (c .arithmetic8 .ensures)
 
 returns-9 : tie.Need-returns-9
 unfolding format2Of
-returns-9 c = rw (c .match .keys9)
+returns-9 c = rw (c .before .match .keys9) (c .arithmetic9 .ensures)
 
 returns-10 : tie.Need-returns-10
 unfolding format2Of
-returns-10 c = rw (c .match .keys10)
+returns-10 c = rw (c .before .match .keys10) (c .arithmetic10 .ensures)
 
 returns-11 : tie.Need-returns-11
 unfolding format2Of
-returns-11 c = rw (c .match .keys11)
+returns-11 c = rw (c .before .match .keys11) (c .arithmetic11 .ensures)
 
 returns-12 : tie.Need-returns-12
 unfolding format2Of
-returns-12 c = rw (c .match .keys12)
+returns-12 c = rw (c .before .match .keys12) (c .arithmetic12 .ensures)
 
 returns-13 : tie.Need-returns-13
 unfolding format2Of
-returns-13 c = rw (c .match .keys13)
+returns-13 c = rw (c .before .match .keys13) (c .arithmetic13 .ensures)
 
 returns-14 : tie.Need-returns-14
 unfolding format2Of
-returns-14 c = rw (c .match .keys14)
+returns-14 c = rw (c .before .match .keys14) (c .arithmetic14 .ensures)
 
 returns-15 : tie.Need-returns-15
 unfolding format2Of
-returns-15 c = rw (c .match .keys15)
+returns-15 c = rw (c .before .match .keys15) (c .arithmetic15 .ensures)
 
 returns-16 : tie.Need-returns-16
 unfolding format2Of
-returns-16 c = rw (c .match .keys16)
+returns-16 c = rw (c .before .match .keys16) (c .arithmetic16 .ensures)
 
 returns-17 : tie.Need-returns-17
 unfolding format2Of
-returns-17 c = rw (c .match .keys17)
+returns-17 c = rw (c .before .match .keys17) (c .arithmetic17 .ensures)
 
 returns-18 : tie.Need-returns-18
 unfolding format2Of
-returns-18 c = rw (c .match .keys18)
+returns-18 c = rw (c .before .match .keys18) (c .arithmetic18 .ensures)
 
 returns-19 : tie.Need-returns-19
 unfolding format2Of
-returns-19 c = rw (c .match .keys19)
+returns-19 c = rw (c .before .match .keys19) (c .arithmetic19 .ensures)
 
 returns-20 : tie.Need-returns-20
 unfolding format2Of
-returns-20 c = rw (c .match .keys20)
+returns-20 c = rw (c .before .match .keys20) (c .arithmetic20 .ensures)
 
 returns-21 : tie.Need-returns-21
 unfolding format2Of
-returns-21 c = rw (c .match .keys21)
+returns-21 c = rw (c .before .match .keys21) (c .shift .ensures)
 
 returns-22 : tie.Need-returns-22
 unfolding format2Of
-returns-22 c = rw (c .match .keys22)
+returns-22 c = rw (c .before .match .keys22) (c .shift2 .ensures)
 
 returns-23 : tie.Need-returns-23
 unfolding format2Of
-returns-23 c = rw (c .match .keys23)
+returns-23 c = rw (c .before .match .keys23) (c .shift3 .ensures)
 
 returns-24 : tie.Need-returns-24
 unfolding format2Of
-returns-24 c = rw (c .match .keys24)
+returns-24 c = rw (c .before .match .keys24) (c .jump .ensures)
 
 returns-25 : tie.Need-returns-25
 unfolding format2Of
-returns-25 c = rw (c .match .keys25)
+returns-25 c = rw (c .before .match .keys25) (c .trap .ensures)
 
 returns-26 : tie.Need-returns-26
-returns-26 c = no-row2 _ _ _ _ _ (c .match .rest)
+unfolding strictly unusedSet
+returns-26 c = ap (strictly (c .before .args .word)) (no-row2 _ _ _ _ _ (c .match .rest))
 
 pub format2-spec : {M : Type 1} → statement M
 format2-spec =
     tie.close
     (tie.spec
+    arithmetic-requires
+    arithmetic-requires-2
+    arithmetic-requires-3
+    arithmetic-requires-4
+    arithmetic-requires-5
+    arithmetic-requires-6
+    arithmetic-requires-7
+    arithmetic-requires-8
+    arithmetic-requires-9
+    arithmetic-requires-10
+    arithmetic-requires-11
+    arithmetic-requires-12
+    arithmetic-requires-13
+    arithmetic-requires-14
+    arithmetic-requires-15
+    arithmetic-requires-16
+    arithmetic-requires-17
+    arithmetic-requires-18
+    arithmetic-requires-19
+    arithmetic-requires-20
+    shift-requires
+    shift-requires-2
+    shift-requires-3
+    jump-requires
+    trap-requires
     returns
     returns-2
     returns-3

@@ -1,47 +1,82 @@
-use Rattle.words.specs.Reader.{format3Of}
+use mathlib.Core.Path.{ap}
+use Rattle.words.specs.Reader.{format3Of, unusedSet, strictly}
 use Rattle.words.proofs.Reader.{no-row3}
+use borrow.Author.Needs.{needs}
 use Rattle.words.proofs.format3.Statement.{statement}
 use Rattle.words.proofs.format3.Tie as tie
 
+load-requires : tie.Need-load-requires
+load-requires c κs = search needs
+
+load-requires-2 : tie.Need-load-requires-2
+load-requires-2 c κs = search needs
+
+load-requires-3 : tie.Need-load-requires-3
+load-requires-3 c κs = search needs
+
+store-requires : tie.Need-store-requires
+store-requires c κs = search needs
+
+store-requires-2 : tie.Need-store-requires-2
+store-requires-2 c κs = search needs
+
+store-requires-3 : tie.Need-store-requires-3
+store-requires-3 c κs = search needs
+
+load-requires-4 : tie.Need-load-requires-4
+load-requires-4 c κs = search needs
+
+load-requires-5 : tie.Need-load-requires-5
+load-requires-5 c κs = search needs
+
 returns : tie.Need-returns
 unfolding format3Of
-returns c = rw (c .match .keys1)
+returns c = rw (c .before .match .keys1) (c .load .ensures)
 
 returns-2 : tie.Need-returns-2
 unfolding format3Of
-returns-2 c = rw (c .match .keys2)
+returns-2 c = rw (c .before .match .keys2) (c .load2 .ensures)
 
 returns-3 : tie.Need-returns-3
 unfolding format3Of
-returns-3 c = rw (c .match .keys3)
+returns-3 c = rw (c .before .match .keys3) (c .load3 .ensures)
 
 returns-4 : tie.Need-returns-4
 unfolding format3Of
-returns-4 c = rw (c .match .keys4)
+returns-4 c = rw (c .before .match .keys4) (c .store .ensures)
 
 returns-5 : tie.Need-returns-5
 unfolding format3Of
-returns-5 c = rw (c .match .keys5)
+returns-5 c = rw (c .before .match .keys5) (c .store2 .ensures)
 
 returns-6 : tie.Need-returns-6
 unfolding format3Of
-returns-6 c = rw (c .match .keys6)
+returns-6 c = rw (c .before .match .keys6) (c .store3 .ensures)
 
 returns-7 : tie.Need-returns-7
 unfolding format3Of
-returns-7 c = rw (c .match .keys7)
+returns-7 c = rw (c .before .match .keys7) (c .load4 .ensures)
 
 returns-8 : tie.Need-returns-8
 unfolding format3Of
-returns-8 c = rw (c .match .keys8)
+returns-8 c = rw (c .before .match .keys8) (c .load5 .ensures)
 
 returns-9 : tie.Need-returns-9
-returns-9 c = no-row3 _ _ _ _ (c .match .rest)
+unfolding strictly unusedSet
+returns-9 c = ap (strictly (c .before .args .word)) (no-row3 _ _ _ _ (c .match .rest))
 
 pub format3-spec : {M : Type 1} → statement M
 format3-spec =
     tie.close
     (tie.spec
+    load-requires
+    load-requires-2
+    load-requires-3
+    store-requires
+    store-requires-2
+    store-requires-3
+    load-requires-4
+    load-requires-5
     returns
     returns-2
     returns-3

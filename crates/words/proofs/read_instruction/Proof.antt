@@ -1,8 +1,9 @@
 use native.Mathlib.Omega.{arith}
 use mathlib.Core.Path.{sym, ap, _∙_}
-use Rattle.words.specs.Reader.{byFormat}
+use Rattle.words.specs.Reader.{byFormat, unusedSet, strictly}
 use Rattle.words.specs.declared.Instruction.the-variants.{Call}
 use Rattle.words.proofs.Reader.{by-op, top-two}
+use Rattle.words.proofs.Strict.{clear-0}
 use borrow.Author.Needs.{needs}
 use Rattle.words.proofs.read_instruction.Statement.{statement}
 use Rattle.words.proofs.read_instruction.Tie as tie
@@ -15,65 +16,35 @@ format0-requires c κs = search needs
 
 returns : tie.Need-returns
 unfolding byFormat
-returns c = c .format0 .ensures ∙ sym (by-op _ _ 0 (c .before .before .before .op .ensures) (c .before .if2 .taken))
+returns c = c .format0 .ensures ∙ clear-0 _ ∙ sym (by-op _ _ 0 (c .before .before .before .op .ensures) (c .before .if2 .taken))
 
 disp30-requires : tie.Need-disp30-requires
 disp30-requires c κs = search needs
 
 returns-2 : tie.Need-returns-2
-unfolding byFormat
+unfolding byFormat strictly unusedSet
 returns-2 c = ap Call (c .disp30 .ensures) ∙ sym (by-op _ _ 1 (c .before .before .before .op .ensures) (omega arith))
-
-second-operand-requires : tie.Need-second-operand-requires
-second-operand-requires c κs = search needs
 
 op3-requires : tie.Need-op3-requires
 op3-requires c κs = search needs
-
-cond-requires : tie.Need-cond-requires
-cond-requires c κs = search needs
-
-rd-requires : tie.Need-rd-requires
-rd-requires c κs = search needs
-
-rs1-requires : tie.Need-rs1-requires
-rs1-requires c κs = search needs
 
 format2-requires : tie.Need-format2-requires
 format2-requires c κs = search needs
 
 returns-3 : tie.Need-returns-3
 unfolding byFormat
-returns-3 c = rw (
-  by-op _ _ 2 (c .before .before .before .before .before .before .before .before .op .ensures) (c .before .before .before .before .before .if3 .taken),
-  ← c .before .before .before .before .op3 .ensures,
-  ← c .before .before .before .cond .ensures,
-  ← c .before .before .rd .ensures,
-  ← c .before .rs1 .ensures,
-  ← c .before .before .before .before .before .before .second-operand .ensures,
-) (c .format2 .ensures)
+returns-3 c = rw (by-op _ _ 2 (c .before .before .before .before .op .ensures) (c .before .before .if3 .taken), ← c .before .op3 .ensures) (c .format2 .ensures)
 
 op3-requires-2 : tie.Need-op3-requires-2
 op3-requires-2 c κs = search needs
-
-rd-requires-2 : tie.Need-rd-requires-2
-rd-requires-2 c κs = search needs
-
-rs1-requires-2 : tie.Need-rs1-requires-2
-rs1-requires-2 c κs = search needs
 
 format3-requires : tie.Need-format3-requires
 format3-requires c κs = search needs
 
 returns-4 : tie.Need-returns-4
 unfolding byFormat
-returns-4 c = rw (
-  by-op _ _ 3 (c .before .before .before .before .before .before .before .op .ensures) (omega (arith, top-two _ _ (c .before .before .before .before .before .before .before .op .ensures))),
-  ← c .before .before .before .op32 .ensures,
-  ← c .before .before .rd2 .ensures,
-  ← c .before .rs12 .ensures,
-  ← c .before .before .before .before .before .second-operand .ensures,
-) (c .format3 .ensures)
+returns-4 c =
+    rw (by-op _ _ 3 (c .before .before .before .before .op .ensures) (omega (arith, top-two _ _ (c .before .before .before .before .op .ensures))), ← c .before .op32 .ensures) (c .format3 .ensures)
 
 pub read-instruction-spec : {M : Type 1} → statement M
 read-instruction-spec =
@@ -84,15 +55,9 @@ read-instruction-spec =
     returns
     disp30-requires
     returns-2
-    second-operand-requires
     op3-requires
-    cond-requires
-    rd-requires
-    rs1-requires
     format2-requires
     returns-3
     op3-requires-2
-    rd-requires-2
-    rs1-requires-2
     format3-requires
     returns-4)

@@ -10,17 +10,11 @@ op-requires c κs = search needs
 op3-requires : tie.Need-op3-requires
 op3-requires c κs = search needs
 
-rd-requires : tie.Need-rd-requires
-rd-requires c κs = search needs
-
-rs1-requires : tie.Need-rs1-requires
-rs1-requires c κs = search needs
-
-second-operand-requires : tie.Need-second-operand-requires
-second-operand-requires c κs = search needs
+jump-requires : tie.Need-jump-requires
+jump-requires c κs = search needs
 
 returns : tie.Need-returns
-returns c = rw (c .before .before .rd .ensures, c .before .rs1 .ensures, c .second-operand .ensures) (jmpl-read _ (sym (c .before .before .before .before .before .before .op .ensures) ∙ c .before .before .before .before .before .if1 .taken) (sym (c .before .before .before .before .op3 .ensures) ∙ c .before .before .before .if2 .taken))
+returns c = c .jump .ensures ∙ jmpl-read _ (sym (c .before .before .before .before .op .ensures) ∙ c .before .before .before .if1 .taken) (sym (c .before .before .op3 .ensures) ∙ c .before .if2 .taken)
 
 returns-2 : tie.Need-returns-2
 returns-2 c = no-jmpl-op3 _ (sym (c .before .before .before .op .ensures) ∙ c .before .before .if1 .taken) (λ e. c .if2 .left (c .before .op3 .ensures ∙ e))
@@ -29,14 +23,4 @@ returns-3 : tie.Need-returns-3
 returns-3 c = no-jmpl-op _ (λ e. c .if1 .left (c .before .op .ensures ∙ e))
 
 pub read-jmpl-spec : {M : Type 1} → statement M
-read-jmpl-spec =
-    tie.close
-    (tie.spec
-    op-requires
-    op3-requires
-    rd-requires
-    rs1-requires
-    second-operand-requires
-    returns
-    returns-2
-    returns-3)
+read-jmpl-spec = tie.close (tie.spec op-requires op3-requires jump-requires returns returns-2 returns-3)

@@ -114,51 +114,6 @@ carry-requires-2 c κs = search needs
 subtract-word-requires-2 : tie.Need-subtract-word-requires-2
 subtract-word-requires-2 c κs = search needs
 
-enum-told-11 : tie.Need-enum-told-11
-enum-told-11 c = search needs
-
-reg-requires-7 : tie.Need-reg-requires-7
-reg-requires-7 c κs = search needs
-
-value-requires-7 : tie.Need-value-requires-7
-value-requires-7 c κs = search needs
-
-sll-requires : tie.Need-sll-requires
-sll-requires c κs = search needs
-
-logic-word-requires-7 : tie.Need-logic-word-requires-7
-logic-word-requires-7 c κs = search needs
-
-enum-told-12 : tie.Need-enum-told-12
-enum-told-12 c = search needs
-
-reg-requires-8 : tie.Need-reg-requires-8
-reg-requires-8 c κs = search needs
-
-value-requires-8 : tie.Need-value-requires-8
-value-requires-8 c κs = search needs
-
-srl-requires : tie.Need-srl-requires
-srl-requires c κs = search needs
-
-logic-word-requires-8 : tie.Need-logic-word-requires-8
-logic-word-requires-8 c κs = search needs
-
-enum-told-13 : tie.Need-enum-told-13
-enum-told-13 c = search needs
-
-reg-requires-9 : tie.Need-reg-requires-9
-reg-requires-9 c κs = search needs
-
-value-requires-9 : tie.Need-value-requires-9
-value-requires-9 c κs = search needs
-
-sra-requires : tie.Need-sra-requires
-sra-requires c κs = search needs
-
-logic-word-requires-9 : tie.Need-logic-word-requires-9
-logic-word-requires-9 c κs = search needs
-
 returns : tie.Need-returns
 unfolding arithmeticOf outcomeOf
 returns c = rw (c .before .before .enum-told .given .1) (c .add-word .ensures)
@@ -198,18 +153,6 @@ returns-9 c = rw (c .before .before .before .enum-told9 .given .1, ← c .before
 returns-10 : tie.Need-returns-10
 unfolding arithmeticOf outcomeOf
 returns-10 c = rw (c .before .before .before .enum-told10 .given .1, ← c .before .carry2 .ensures) (c .subtract-word2 .ensures)
-
-returns-11 : tie.Need-returns-11
-unfolding arithmeticOf outcomeOf
-returns-11 c = rw (c .before .before .before .before .before .before .before .enum-told11 .given .1, ← c .before .before .before .before .reg7 .ensures, ← c .before .before .value7 .ensures, ← c .before .sll .ensures) (c .logic-word7 .ensures)
-
-returns-12 : tie.Need-returns-12
-unfolding arithmeticOf outcomeOf
-returns-12 c = rw (c .before .before .before .before .before .before .before .enum-told12 .given .1, ← c .before .before .before .before .reg8 .ensures, ← c .before .before .value8 .ensures, ← c .before .srl .ensures) (c .logic-word8 .ensures)
-
-returns-13 : tie.Need-returns-13
-unfolding arithmeticOf outcomeOf
-returns-13 c = rw (c .before .before .before .before .before .before .before .enum-told13 .given .1, ← c .before .before .before .before .reg9 .ensures, ← c .before .before .value9 .ensures, ← c .before .sra .ensures) (c .logic-word9 .ensures)
 
 pub operate-spec : {M : Type 1} → statement M
 operate-spec =
@@ -252,21 +195,6 @@ operate-spec =
     enum-told-10
     carry-requires-2
     subtract-word-requires-2
-    enum-told-11
-    reg-requires-7
-    value-requires-7
-    sll-requires
-    logic-word-requires-7
-    enum-told-12
-    reg-requires-8
-    value-requires-8
-    srl-requires
-    logic-word-requires-8
-    enum-told-13
-    reg-requires-9
-    value-requires-9
-    sra-requires
-    logic-word-requires-9
     returns
     returns-2
     returns-3
@@ -276,7 +204,4 @@ operate-spec =
     returns-7
     returns-8
     returns-9
-    returns-10
-    returns-11
-    returns-12
-    returns-13)
+    returns-10)

@@ -36,6 +36,12 @@ enum-known-i-5 c = search needs
 store-requires : tie.Need-store-requires
 store-requires c κs = search needs
 
+enum-known-i-6 : tie.Need-enum-known-i-6
+enum-known-i-6 c = search needs
+
+shift-requires : tie.Need-shift-requires
+shift-requires c κs = search needs
+
 returns : tie.Need-returns
 unfolding effectOf settle endingOf
 returns c = rw (c .before .before .before .i .given .1, c .put .ensures)
@@ -69,8 +75,12 @@ returns-5 c = let a = c .before .before .before .before .before .before .before 
     rw (c .before .before .before .before .before .before .i5 .given .1) (settle-within (withArea m) _ _ _ _ (c .before .before .store .ensures))
 
 returns-6 : tie.Need-returns-6
+unfolding effectOf settle endingOf
+returns-6 c = rw (c .before .before .before .i6 .given .1, c .shift .ensures)
+
+returns-7 : tie.Need-returns-7
 unfolding endingOf
-returns-6 c = idle _ _ _ (c .match .keys6)
+returns-7 c = idle _ _ _ (c .match .keys7)
 
 pub perform-spec : {M : Type 1} → statement M
 perform-spec =
@@ -86,6 +96,8 @@ perform-spec =
     load-requires
     enum-known-i-5
     store-requires
+    enum-known-i-6
+    shift-requires
     returns
     returns-2
     returns-3
@@ -93,4 +105,5 @@ perform-spec =
     returns-4
     same-length-2
     returns-5
-    returns-6)
+    returns-6
+    returns-7)
