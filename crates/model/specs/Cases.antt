@@ -12,7 +12,7 @@ use Rattle.model.specs.Records.{numbersIn}
 use Rattle.model.specs.NewCore.{New, new, newNext}
 use Rattle.model.specs.Translation.{Handed, answerNumbers, translation}
 use Rattle.model.specs.Trails.{Trail, trail, Entry, entry, entries, later, closing}
-use Rattle.model.specs.StateBytes.{oldBegins, newBegins}
+use Rattle.model.specs.StateBytes.{oldSize, newSize, oldBegins, newBegins}
 use Rattle.model.specs.Cores.{Start, oldOver, newOver, oldBegin, newBegin, stepsFor, trailOf, newTrailAt}
 
 -- the case's number, what the definitions give, what 01 says
@@ -298,6 +298,8 @@ cases =
     ∷ row 0 (numbersIn (newBegins [] 0 16 8 (bytesOf (upTo (λ i. i + 5) 38)) .state)) (0 ∷ upTo (λ i. i + 6) 31 ++ (5 ∷ 0 ∷ 0 ∷ 6 ∷ 8 ∷ 42 ∷ []))
     -- and a begin of the old core
     ∷ row 0 (numbersIn (oldBegins 8 (bytesOf (upTo (λ i. i + 5) 39)))) (0 ∷ upTo (λ i. i + 6) 31 ++ (5 ∷ 8 ∷ 12 ∷ 0 ∷ 0 ∷ 0 ∷ 43 ∷ []))
+    -- and how many bytes a state has, of either core
+    ∷ row 0 (length (oldBegins 8 []) ∷ length (newBegins [] 0 16 8 [] .state) ∷ []) (oldSize ∷ newSize ∷ [])
     -- each refusal, with both buffers: "Every refusal fills both buffers with 0"
     ∷ row 0 (bytesBack (translation [] 0 (bytesOf (0 ∷ [])) 3 5)) (1 ∷ 0 ∷ 0 ∷ replicate 8 0)
     ∷ row 0 (bytesBack (translation (1 ∷ 2 ∷ []) 0 (bytesOf (0 ∷ [])) 3 5)) (1 ∷ 2 ∷ 0 ∷ replicate 8 0)
