@@ -2,7 +2,7 @@
 use Prim.Native.Nat.{ℕ, zero, suc, _+_, _-_, _*_, _/_, _%_, _^_, _<_, _≤_}
 use native.Mathlib.Omega.{arith}
 use native.Mathlib.Nat.{mul-add, add-mul, mul-le-mul, mod-add-mod}
-use lib.IntN.{ℤ, pos, negsuc, negℤ, _-ℤ_, _*ℤ_}
+use lib.IntN.{ℤ, pos, negsuc, negℤ, _+ℤ_, _-ℤ_, _*ℤ_}
 use borrow.Author.Tests.{lt-ltb}
 use mathlib.Core.Path.{_≡_, refl, sym, ap, _∙_}
 use mathlib.Core.Bool.{Bool, true, false, _&&_}
@@ -27,15 +27,18 @@ lack-left w a b h = sym (add-mul (w - a) a b) ∙ ap (λ n. n * b) (omega arith)
 lack-right : (w a b : ℕ) → b ≤ w → a * (w - b) + a * b ≡ a * w
 lack-right w a b h = sym (mul-add a (w - b) b) ∙ ap (λ n. a * n) (omega arith)
 
--- a factor as an integer, and one below 0
+-- a factor as an integer, and integers below 0
 abbrev factor : Bool → ℕ → ℤ
 factor s a = pick s (pos a -ℤ pos (2 ^ 32)) (pos a)
 
-below-zero : (a : ℕ) → a < 2 ^ 32 → factor true a ≡ negℤ (pos (2 ^ 32 - a))
-below-zero a h = go (2 ^ 32 - suc a) (omega arith)
-  where
-    go : (n : ℕ) → 2 ^ 32 - a ≡ suc n → factor true a ≡ negℤ (pos (2 ^ 32 - a))
-    go n e = rw (lt-ltb a (2 ^ 32) h, e) (ap negsuc (omega arith))
+pub below-zero : (n k x : ℕ) → k + suc n ≡ x → negsuc n ≡ pos k +ℤ negℤ (pos x)
+below-zero n k zero e = absurd (omega arith)
+below-zero n k (suc x) e = rw (lt-ltb k (suc x) (omega arith)) (ap negsuc (omega arith))
+
+negative : (a : ℕ) → a < 2 ^ 32 → factor true a ≡ negℤ (pos (2 ^ 32 - a))
+negative a h =
+    let e : 2 ^ 32 - a ≡ suc (2 ^ 32 - suc a) = omega arith in
+    rw e (sym (below-zero (2 ^ 32 - suc a) a (2 ^ 32) (omega arith)))
 
 minus-times : (m n : ℕ) → 0 < m → negℤ (pos m) *ℤ pos n ≡ negℤ (pos (m * n))
 minus-times zero n h = absurd (omega arith)
@@ -62,13 +65,13 @@ unfolding modulo64
 taken-off true true a b h i =
     let l = lack-left (2 ^ 32) a (2 ^ 32 - b) (omega arith) in
     let r = lack-right (2 ^ 32) a b (omega arith) in
-    rw (below-zero a h, below-zero b i, minus-minus (2 ^ 32 - a) (2 ^ 32 - b) (omega arith) (omega arith)) (omega (arith, l, r))
+    rw (negative a h, negative b i, minus-minus (2 ^ 32 - a) (2 ^ 32 - b) (omega arith) (omega arith)) (omega (arith, l, r))
 taken-off true false a b h i =
     let l = lack-left (2 ^ 32) a b (omega arith) in
-    rw (below-zero a h, minus-times (2 ^ 32 - a) b (omega arith), modulo-minus ((2 ^ 32 - a) * b) (omega (arith, l))) (omega (arith, l))
+    rw (negative a h, minus-times (2 ^ 32 - a) b (omega arith), modulo-minus ((2 ^ 32 - a) * b) (omega (arith, l))) (omega (arith, l))
 taken-off false true a b h i =
     let r = lack-right (2 ^ 32) a b (omega arith) in
-    rw (below-zero b i, times-minus a (2 ^ 32 - b) (omega arith), modulo-minus (a * (2 ^ 32 - b)) (omega (arith, r))) (omega (arith, r))
+    rw (negative b i, times-minus a (2 ^ 32 - b) (omega arith), modulo-minus (a * (2 ^ 32 - b)) (omega (arith, r))) (omega (arith, r))
 taken-off false false a b h i = omega arith
 
 signs : (sign : Bool) (a b : ℕ) → exactProduct sign a b ≡ factor (sign && top a) a *ℤ factor (sign && top b) b

@@ -1,23 +1,18 @@
 -- Y and rd hold what `ProductsExact` states.
-use Prim.Native.Nat.{ℕ, zero, suc, _+_, _-_, _*_, _/_, _%_, _^_}
+use Prim.Native.Nat.{ℕ, suc, _+_, _-_, _*_, _/_, _%_, _^_}
 use native.Mathlib.Omega.{arith}
 use mathlib.Core.Path.{_≡_, ap, _∙_}
 use mathlib.Core.Bool.{true, false}
 use mathlib.Core.List.{List}
 use lib.ListN.{length, set, length-set}
 use lib.Seq.{getD-set-same, getD-set-other}
-use lib.IntN.{ℤ, pos, negsuc, negℤ, _+ℤ_, _*ℤ_}
-use borrow.Author.Tests.{lt-ltb}
+use lib.IntN.{ℤ, pos, negsuc, _+ℤ_, _*ℤ_}
 use Rattle.machine.specs.Registers.{fileSize, registerOf, putRegister, yOf, putY, valueOf}
 use Rattle.machine.specs.Arithmetic.{exactProduct, modulo64, productOf, outcomeOf, arithmeticOf}
 use Rattle.machine.specs.ProductsExact.{InWords, ProductsExact}
-use Rattle.machine.proofs.Products.{modulo-lt}
+use Rattle.machine.proofs.Products.{modulo-lt, below-zero}
 
 -- an integer is what is left of it modulo 2^64, and so many times 2^64
-below-zero : (n k x : ℕ) → k + suc n ≡ x → negsuc n ≡ pos k +ℤ negℤ (pos x)
-below-zero n k zero e = absurd (omega arith)
-below-zero n k (suc x) e = rw (lt-ltb k (suc x) (omega arith)) (ap negsuc (omega arith))
-
 abbrev times64 : ℤ → ℤ
 times64 (pos n) = pos (n / 2 ^ 64)
 times64 (negsuc n) = negsuc (n / 2 ^ 64)
