@@ -1,4 +1,4 @@
-/* Measures the library's side of a core against the rival's, on three loops. */
+/* Measures the library's side of a core against the rival's, on four loops. */
 #include "bench.h"
 
 #include <stdio.h>
@@ -43,7 +43,7 @@ static void round_of(run_function *run, const struct program *program, struct si
 /* Both sides are still going, with equal states and data. */
 static bool equal(const struct side *library, const struct side *rival)
 {
-    return word_at(rival->state + core.state_length - 8) == 0
+    return word_at(end_in(rival->state)) == 0
         && memcmp(rival->state, library->state, core.state_length) == 0
         && memcmp(rival->data, library->data, DATA_LENGTH) == 0;
 }

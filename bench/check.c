@@ -32,7 +32,7 @@ static bool take_vector(struct reader *reader, struct vector *v)
 /* A side leaves and answers what the case says; data is room for the case's. */
 static bool agrees(run_function *run, const struct vector *v, uint8_t *data)
 {
-    const uint8_t *known = v->after + core.state_length - 8;
+    const uint8_t *known = end_in(v->after);
     uint8_t state[STATE_LIMIT];
     struct pijorrel_end end;
     memcpy(state, v->before, core.state_length);

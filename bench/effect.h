@@ -92,6 +92,23 @@ static inline uint32_t logic(struct machine *m, uint32_t result, bool cc)
     return result;
 }
 
+/* The high word of a product goes to Y. */
+static inline uint32_t product(struct machine *m, uint64_t wide, bool cc)
+{
+    m->y = (uint32_t)(wide >> 32);
+    return logic(m, (uint32_t)wide, cc);
+}
+
+static inline uint64_t unsigned_product(uint32_t a, uint32_t b)
+{
+    return (uint64_t)a * b;
+}
+
+static inline uint64_t signed_product(uint32_t a, uint32_t b)
+{
+    return (uint64_t)((int64_t)(int32_t)a * (int32_t)b);
+}
+
 /* The sign comes in from the left: C leaves this shift to the compiler, and gcc and clang promise it. */
 static inline uint32_t shifted_signed(uint32_t a, uint32_t by)
 {
@@ -137,6 +154,12 @@ static inline enum outcome arithmetic(struct machine *m, uint32_t word)
     case OP3_XNOR | OP3_CC: result = logic(m, a ^ ~b, true); break;
     case OP3_ADDX | OP3_CC: result = sum(m, a, b, carry, true); break;
     case OP3_SUBX | OP3_CC: result = difference(m, a, b, carry, true); break;
+    case OP3_UMUL: result = product(m, unsigned_product(a, b), false); break;
+    case OP3_SMUL: result = product(m, signed_product(a, b), false); break;
+    case OP3_UMUL | OP3_CC: result = product(m, unsigned_product(a, b), true); break;
+    case OP3_SMUL | OP3_CC: result = product(m, signed_product(a, b), true); break;
+    case OP3_RDY: if (word & UNUSED_RDY) return ILLEGAL; result = m->y; break;
+    case OP3_WRY: if (word & UNUSED_WRY) return ILLEGAL; m->y = a ^ b; return DONE;
     case OP3_SLL: if (word & UNUSED_ABOVE_5) return ILLEGAL; result = a << (b & 31); break;
     case OP3_SRL: if (word & UNUSED_ABOVE_5) return ILLEGAL; result = a >> (b & 31); break;
     case OP3_SRA: if (word & UNUSED_ABOVE_5) return ILLEGAL; result = shifted_signed(a, b & 31); break;

@@ -22,9 +22,12 @@ static inline uint32_t annul_bit(uint32_t word) { return word >> 29 & 1; }
 static inline uint32_t disp22(uint32_t word) { return extended(word & 0x3FFFFF, 0x200000) << 2; }
 static inline uint32_t disp30(uint32_t word) { return word << 2; }
 
-/* Unused bits: those above a register's number or a shift's constant, and a Ticc's. A word that has one set is illegal. */
+/* Unused bits: those above a register's number or a shift's constant, a Ticc's, and all below op3 of rdy, rd of wry. A
+ * word that has one set is illegal. */
 #define UNUSED_ABOVE_5 0x1FE0u
 #define UNUSED_TICC 0x20001F80u
+#define UNUSED_RDY 0x0007FFFFu
+#define UNUSED_WRY 0x3E000000u
 
 static inline bool is_constant(uint32_t word) { return word & 0x2000; }
 static inline bool register_strays(uint32_t word) { return !is_constant(word) && (word & UNUSED_ABOVE_5); }

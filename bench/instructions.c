@@ -1,9 +1,11 @@
 #include "instructions.h"
 
+#include <stdbool.h>
+
 #include "numbers.h"
 #include "v8.h"
 
-enum { ARITHMETIC = FORMAT_ARITHMETIC << 6, MEMORY = FORMAT_MEMORY << 6, CALL = FORMAT_CALL << 6, PLAIN = 20 };
+enum { ARITHMETIC = FORMAT_ARITHMETIC << 6, MEMORY = FORMAT_MEMORY << 6, CALL = FORMAT_CALL << 6, PLAIN = 24 };
 
 /* The arithmetic ones first. */
 static const uint32_t forms[] = {
@@ -12,9 +14,11 @@ static const uint32_t forms[] = {
     ARITHMETIC + OP3_CC + OP3_ADD, ARITHMETIC + OP3_CC + OP3_AND, ARITHMETIC + OP3_CC + OP3_OR,
     ARITHMETIC + OP3_CC + OP3_XOR, ARITHMETIC + OP3_CC + OP3_SUB, ARITHMETIC + OP3_CC + OP3_ANDN,
     ARITHMETIC + OP3_CC + OP3_ORN, ARITHMETIC + OP3_CC + OP3_XNOR, ARITHMETIC + OP3_CC + OP3_ADDX,
-    ARITHMETIC + OP3_CC + OP3_SUBX, ARITHMETIC + OP3_SLL, ARITHMETIC + OP3_SRL, ARITHMETIC + OP3_SRA,
-    ARITHMETIC + OP3_JMPL, ARITHMETIC + OP3_TICC, MEMORY + OP3_LD, MEMORY + OP3_LDUB, MEMORY + OP3_LDUH,
-    MEMORY + OP3_LDSB, MEMORY + OP3_LDSH, MEMORY + OP3_ST, MEMORY + OP3_STB, MEMORY + OP3_STH, CALL, OP2_BICC, OP2_SETHI
+    ARITHMETIC + OP3_CC + OP3_SUBX, ARITHMETIC + OP3_UMUL, ARITHMETIC + OP3_SMUL, ARITHMETIC + OP3_CC + OP3_UMUL,
+    ARITHMETIC + OP3_CC + OP3_SMUL, ARITHMETIC + OP3_SLL, ARITHMETIC + OP3_SRL, ARITHMETIC + OP3_SRA,
+    ARITHMETIC + OP3_RDY, ARITHMETIC + OP3_WRY, ARITHMETIC + OP3_JMPL, ARITHMETIC + OP3_TICC, MEMORY + OP3_LD,
+    MEMORY + OP3_LDUB, MEMORY + OP3_LDUH, MEMORY + OP3_LDSB, MEMORY + OP3_LDSH, MEMORY + OP3_ST, MEMORY + OP3_STB,
+    MEMORY + OP3_STH, CALL, OP2_BICC, OP2_SETHI
 };
 
 enum { FORMS = sizeof forms / sizeof *forms };
@@ -37,10 +41,11 @@ static void put_instruction(uint8_t *at, uint32_t form, uint32_t *state)
     put_word(at + 20, drawn(state) % 32);
 }
 
-/* Makes the form one that no word has, or the value too large for any field. */
+/* Makes the form one that no word has, or the value, which rdy has not, too large for any field. */
 static void spoil(uint8_t *at, uint32_t *state)
 {
-    put_word(at + drawn(state) % 2 * 20, 1u << 31 | drawn(state));
+    bool in_value = drawn(state) % 2 && word_at(at) != ARITHMETIC + OP3_RDY;
+    put_word(at + 20 * in_value, 1u << 31 | drawn(state));
 }
 
 void make_list(struct list *list, int number)

@@ -1,4 +1,4 @@
-/* The three loops that the cores' benchmarks run: the old core the words, the new core their translations. After an
+/* The four loops that the cores' benchmarks run: the old core the words, the new core their translations. After an
  * edit, bench/translate makes the translations again, and the programs in whole.c may take other numbers. */
 #include "loops.h"
 
@@ -85,6 +85,36 @@ static struct loop mixed_loop(void)
     return LOOP_OF("mixed", words, 13);
 }
 
+/* A generator of 64 bits, in r2 and r1, whose numbers are smoothed in r7; a product is rounded by its low word. */
+static struct loop products_loop(void)
+{
+    const uint32_t words[] = {
+        sethi(16, 0x4C957F2D),                          /*  0       sethi  r16 */
+        compute_constant(OP3_OR, 16, 16, 0x32D),        /*  1       or     r16, 0x32d, r16 */
+        sethi(17, 0x5851F42D),                          /*  2       sethi  r17 */
+        compute_constant(OP3_OR, 17, 17, 0x02D),        /*  3       or     r17, 0x2d, r17 */
+        compute(OP3_UMUL, 3, 1, 16),                    /*  4 loop: umul   r1, r16, r3 */
+        read_y(4),                                      /*  5       rd     y, r4 */
+        compute(OP3_UMUL, 5, 1, 17),                    /*  6       umul   r1, r17, r5 */
+        compute(OP3_UMUL | OP3_CC, 6, 2, 16),           /*  7       umulcc r2, r16, r6 */
+        compute_constant(OP3_ADD | OP3_CC, 1, 3, 2047), /*  8       addcc  r3, 2047, r1 */
+        compute(OP3_ADD, 5, 5, 6),                      /*  9       add    r5, r6, r5 */
+        compute(OP3_ADDX, 2, 4, 5),                     /* 10       addx   r4, r5, r2 */
+        compute_constant(OP3_SRA, 8, 2, 3),             /* 11       sra    r2, 3, r8 */
+        compute(OP3_SUB, 8, 8, 7),                      /* 12       sub    r8, r7, r8 */
+        compute(OP3_SMUL | OP3_CC, 0, 8, 17),           /* 13       smulcc r8, r17, r0 */
+        read_y(8),                                      /* 14       rd     y, r8 */
+        branch(COND_NEG, true, 2),                      /* 15       bneg,a at17 */
+        compute_constant(OP3_ADD, 7, 7, 1),             /* 16       add    r7, 1, r7 */
+        compute(OP3_ADD, 7, 7, 8),                      /* 17 at17: add    r7, r8, r7 */
+        compute_constant(OP3_SMUL, 9, 7, -819),         /* 18       smul   r7, -819, r9 */
+        write_y(2, 9),                                  /* 19       wr     r2, r9, y */
+        branch(COND_ALWAYS, false, -16),                /* 20       ba     loop */
+        read_y(10),                                     /* 21       rd     y, r10 */
+    };
+    return LOOP_OF("products", words, 20);
+}
+
 static struct loop empty_loop(void)
 {
     const uint32_t words[] = {
@@ -100,6 +130,7 @@ struct loop loop_at(int number)
     case 0: return arithmetic_loop();
     case 1: return memory_loop();
     case 2: return mixed_loop();
+    case 3: return products_loop();
     default: return empty_loop();
     }
 }

@@ -9,13 +9,17 @@
 struct machine {
     uint32_t registers[32];
     uint32_t flags;
+    uint32_t y;
     struct pijorrel_end end;
 };
 
-/* From and to the bytes of the library's states: registers and flags stand first in both, the end at end. */
+/* From and to the bytes of the library's states: registers and flags stand first in both; at end the end, the number
+ * beside it, and Y. */
 static inline struct machine machine_from(const uint8_t *state, const uint8_t *end)
 {
-    struct machine m = { .flags = word_at(state + 128) & 15, .end = { word_at(end), word_at(end + 4) } };
+    struct machine m = {
+        .flags = word_at(state + 128) & 15, .y = word_at(end + 8), .end = { word_at(end), word_at(end + 4) }
+    };
     for (int i = 1; i < 32; i++)
         m.registers[i] = word_at(state + 4 * i);
     if (m.end.end < 1 || m.end.end > 7)
@@ -30,6 +34,7 @@ static inline void machine_to(const struct machine *m, uint8_t *state, uint8_t *
     put_word(state + 128, m->flags);
     put_word(end, m->end.end);
     put_word(end + 4, m->end.number);
+    put_word(end + 8, m->y);
 }
 
 #endif

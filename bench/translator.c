@@ -61,8 +61,12 @@ static inline enum class arithmetic_class(uint32_t word)
     case OP3_XNOR: case OP3_XNOR | OP3_CC:
     case OP3_ADDX: case OP3_ADDX | OP3_CC:
     case OP3_SUBX: case OP3_SUBX | OP3_CC:
+    case OP3_UMUL: case OP3_UMUL | OP3_CC:
+    case OP3_SMUL: case OP3_SMUL | OP3_CC:
         return OTHER;
     case OP3_SLL: case OP3_SRL: case OP3_SRA: return word & UNUSED_ABOVE_5 ? ILLEGAL : OTHER;
+    case OP3_RDY: return word & UNUSED_RDY ? ILLEGAL : OTHER;
+    case OP3_WRY: return word & UNUSED_WRY ? ILLEGAL : OTHER;
     case OP3_JMPL: return JMPL;
     case OP3_TICC: return word & UNUSED_TICC ? ILLEGAL : TICC;
     default: return ILLEGAL;

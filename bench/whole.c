@@ -70,7 +70,8 @@ static void add_end(struct whole *w)
 struct whole whole_at(int number)
 {
     /* As many turns as fit into the steps, and for those left over words that do nothing. */
-    static const int turns[WHOLE_PROGRAMS] = { 642, 4093, 3194, 1 }, left[WHOLE_PROGRAMS] = { 10, 5, 16, 0 };
+    static const int turns[WHOLE_PROGRAMS] = { 642, 4093, 3194, 3118, 1 };
+    static const int left[WHOLE_PROGRAMS] = { 10, 5, 16, 12, 0 };
     struct loop loop = loop_at(number);
     struct whole w = { .name = loop.name };
     set(&w, STACK, 0); /* QEMU hands over an address there */

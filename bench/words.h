@@ -27,6 +27,16 @@ static inline uint32_t compute_constant(uint32_t op3, uint32_t rd, uint32_t rs1,
     return with_constant(FORMAT_ARITHMETIC, op3, rd, rs1, constant);
 }
 
+static inline uint32_t read_y(uint32_t rd)
+{
+    return compute(OP3_RDY, rd, 0, 0);
+}
+
+static inline uint32_t write_y(uint32_t rs1, uint32_t rs2)
+{
+    return compute(OP3_WRY, 0, rs1, rs2);
+}
+
 static inline uint32_t access(uint32_t op3, uint32_t rd, uint32_t rs1, uint32_t rs2)
 {
     return with_register(FORMAT_MEMORY, op3, rd, rs1, rs2);

@@ -70,16 +70,33 @@ static inline struct pijorrel_written upper(uint32_t form, const uint8_t *six, u
     return fit(form >> 6 << 30 | rd << 25 | (form & 63) << 19 | rs1 << 14);
 }
 
-/* With a constant of thirteen bits and a sign, or a register. */
+/* What stands above it, and a constant of thirteen bits and a sign, or a register. */
+static inline struct pijorrel_written with_operand(uint32_t above, const uint8_t *six)
+{
+    uint32_t value = value_of(six);
+    if (mark_of(six) != 0)
+        return fits_signed(value, 13) ? fit(above | 1u << 13 | low(value, 13)) : unfit(13);
+    return value > 31 ? unfit(5) : fit(above | value);
+}
+
 static inline struct pijorrel_written long_word(uint32_t form, const uint8_t *six)
 {
     struct pijorrel_written w = upper(form, six, 5);
-    uint32_t value = value_of(six);
-    if (w.number != 0)
-        return w;
-    if (mark_of(six) != 0)
-        return fits_signed(value, 13) ? fit(w.value | 1u << 13 | low(value, 13)) : unfit(13);
-    return value > 31 ? unfit(5) : fit(w.value | value);
+    return w.number != 0 ? w : with_operand(w.value, six);
+}
+
+static inline struct pijorrel_written rdy_word(const uint8_t *six)
+{
+    uint32_t rd = rd_of(six);
+    return rd > 31 ? unfit(5) : fit((uint32_t)FORMAT_ARITHMETIC << 30 | rd << 25 | (uint32_t)OP3_RDY << 19);
+}
+
+static inline struct pijorrel_written wry_word(const uint8_t *six)
+{
+    uint32_t rs1 = rs1_of(six);
+    if (rs1 > 31)
+        return unfit(5);
+    return with_operand((uint32_t)FORMAT_ARITHMETIC << 30 | (uint32_t)OP3_WRY << 19 | rs1 << 14, six);
 }
 
 /* With a constant of so many bits without a sign, or a register. */
@@ -106,12 +123,14 @@ struct pijorrel_written rival_write(const uint8_t six[PIJORREL_INSTRUCTION])
     case FORMAT_CALL << 6: return call_word(six);
     COMPUTE_BOTH(OP3_ADD): COMPUTE_BOTH(OP3_ADDX): COMPUTE_BOTH(OP3_SUB): COMPUTE_BOTH(OP3_SUBX):
     COMPUTE_BOTH(OP3_AND): COMPUTE_BOTH(OP3_ANDN): COMPUTE_BOTH(OP3_OR): COMPUTE_BOTH(OP3_ORN):
-    COMPUTE_BOTH(OP3_XOR): COMPUTE_BOTH(OP3_XNOR): COMPUTE(OP3_JMPL):
+    COMPUTE_BOTH(OP3_XOR): COMPUTE_BOTH(OP3_XNOR): COMPUTE_BOTH(OP3_UMUL): COMPUTE_BOTH(OP3_SMUL): COMPUTE(OP3_JMPL):
     ACCESS(OP3_LD): ACCESS(OP3_LDUB): ACCESS(OP3_LDUH): ACCESS(OP3_LDSB): ACCESS(OP3_LDSH):
     ACCESS(OP3_ST): ACCESS(OP3_STB): ACCESS(OP3_STH):
         return long_word(form, six);
     COMPUTE(OP3_SLL): COMPUTE(OP3_SRL): COMPUTE(OP3_SRA): return short_word(form, six, 5, 5);
     COMPUTE(OP3_TICC): return short_word(form, six, 4, 7);
+    COMPUTE(OP3_RDY): return rdy_word(six);
+    COMPUTE(OP3_WRY): return wry_word(six);
     default: return unfit(0);
     }
 }

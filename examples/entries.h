@@ -19,13 +19,14 @@ struct program {
     uint32_t base;
 };
 
-/* One core's run. The caller sets the first four and the registers and flags in the state, then begins. After that
- * the run is at an entry (its address here, registers, flags and data where they are) or closed. */
+/* One core's run. The caller sets the first five and the registers and flags in the state, then begins. After that
+ * the run is at an entry (its address and Y here, registers, flags and data where they are) or closed. */
 struct walk {
     const struct program *program;
     uint32_t data_base;
     uint8_t *data;
     size_t data_length;
+    uint32_t y;                        /* in the state too, where each core has its own place for it */
     uint8_t state[PIJORREL_OLD_STATE]; /* of either core */
     bool on_new_core;
     bool closed;

@@ -11,7 +11,7 @@
  *   -n MOST      stop after so many records, or with -c entries (1,000,000)
  *   -c           run both cores side by side instead, and compare them at every entry
  *
- * Numbers are decimal, or hexadecimal after 0x. Registers begin as 0, flags clear. It leaves with
+ * Numbers are decimal, or hexadecimal after 0x. Registers and Y begin as 0, flags clear. It leaves with
  *   0  the run has ended; with -c: no difference
  *   1  the translation is refused
  *   2  the command line is wrong, a file cannot be read, or with -c there is no place at START
@@ -31,7 +31,8 @@ enum {
     ENDED, REFUSED, UNUSABLE, DIFFERENT, GOING, /* exit statuses */
     IMAGE_ROOM = 1 << 20,                       /* more than is accepted, so that the refusal can name the length */
     DATA_ROOM = 65536,
-    ENTRIES_ROOM = 4 * 1024
+    ENTRIES_ROOM = 4 * 1024,
+    FLAGS = 32, Y = 37                          /* numbers of the new core's state */
 };
 
 /* What the command line says. */
@@ -70,8 +71,8 @@ static void add_entry(struct order *order, uint32_t entry)
 {
     if (order->entries_length == ENTRIES_ROOM)
         usage();
-    for (int shift = 24; shift >= 0; shift -= 8)
-        order->entries[order->entries_length++] = (uint8_t)(entry >> shift);
+    put_number(order->entries, order->entries_length / 4, entry);
+    order->entries_length += 4;
 }
 
 /* One option with the word after it, if it takes one; how many words these are. */
@@ -148,17 +149,19 @@ static void print_end(uint32_t end, uint32_t number)
     printf("ended (%" PRIu32 "): %s, %s %" PRIu32 "\n", end, words_of_end(end), beside[end < 8 ? end : 0], number);
 }
 
-/* The flags, and every register that is not 0. */
+/* The flags, and every register and Y that is not 0. */
 static void print_machine(const uint8_t *state)
 {
     static const char *const names[] = { "N", "Z", "V", "C" };
     printf("flags:");
     for (int i = 0; i < 4; i++)
-        printf(" %s=%d", names[i], (int)(number_at(state, 32) >> (3 - i) & 1));
+        printf(" %s=%d", names[i], (int)(number_at(state, FLAGS) >> (3 - i) & 1));
     printf("\n");
     for (size_t i = 1; i < 32; i++)
         if (number_at(state, i) != 0)
             printf("r%zu = %" PRIu32 "\n", i, number_at(state, i));
+    if (number_at(state, Y) != 0)
+        printf("Y = %" PRIu32 "\n", number_at(state, Y));
 }
 
 /* Runs in pieces of at most 65,535 records, since a count has 16 bits. */
@@ -192,8 +195,8 @@ static const char *difference(const struct walk *old, const struct walk *new)
         return old->end == new->end && old->number == new->number ? NULL : "the ends";
     if (old->address != new->address)
         return "the addresses";
-    if (memcmp(old->state, new->state, REGISTERS_AND_FLAGS) != 0)
-        return "registers or flags";
+    if (memcmp(old->state, new->state, REGISTERS_AND_FLAGS) != 0 || old->y != new->y)
+        return "registers, Y or flags";
     if (old->data_length > 0 && memcmp(old->data, new->data, old->data_length) != 0)
         return "the data";
     return NULL;

@@ -11,12 +11,6 @@
 
 enum { MOST = 16384, NUMBERS = 6 };
 
-static void put_number(uint8_t *bytes, size_t position, uint32_t number)
-{
-    for (int i = 0; i < 4; i++)
-        bytes[4 * position + i] = (uint8_t)(number >> (24 - 8 * i));
-}
-
 static void show(const char *when, uint32_t word)
 {
     uint8_t instruction[PIJORREL_INSTRUCTION];

@@ -14,6 +14,12 @@ static inline uint32_t number_at(const uint8_t *bytes, size_t position)
     return (uint32_t)at[0] << 24 | (uint32_t)at[1] << 16 | (uint32_t)at[2] << 8 | at[3];
 }
 
+static inline void put_number(uint8_t *bytes, size_t position, uint32_t number)
+{
+    for (int i = 0; i < 4; i++)
+        bytes[4 * position + i] = (uint8_t)(number >> (24 - 8 * i));
+}
+
 /* Reads a file of at most so many bytes; leaves the program with 2 if that cannot be done. */
 static inline size_t load(const char *path, uint8_t *bytes, size_t most)
 {

@@ -48,15 +48,16 @@ struct pijorrel_end {
 
 /* ---- the old core ----
  *
- * Its state: 38 numbers.
- *   0 to 31  registers (register 0 counts as 0)       34  nPC
- *   32       flags, 8N + 4Z + 2V + C (low four bits)  35  annul (any number but 0 is set)
- *   33       PC                                       36  end, 37 the number beside it
+ * Its state: 39 numbers.
+ *   0 to 31  registers (register 0 counts as 0)       35  annul (any number but 0 is set)
+ *   32       flags, 8N + 4Z + 2V + C (low four bits)  36  end, 37 the number beside it
+ *   33       PC                                       38  Y
+ *   34       nPC
  * Any bytes are a state; an end outside 1 to 7 counts as still going. All bytes 0 are the start values. Every call
  * leaves it in normal form: register 0 as 0, flags below 16, annul 0 or 1, end 0 to 7, and number 0 beside end 0. */
-#define PIJORREL_OLD_STATE 152
+#define PIJORREL_OLD_STATE 156
 
-/* Sets PC to the address, nPC 4 further, annul clear, not ended; keeps registers and flags. */
+/* Sets PC to the address, nPC 4 further, annul clear, not ended; keeps registers, Y and flags. */
 void pijorrel_old_begin(uint32_t address, uint8_t state[PIJORREL_OLD_STATE]);
 
 /* Passes count words, annulled ones counted, or fewer where the run ends; answers how it stands, as the state does.
@@ -132,13 +133,13 @@ struct pijorrel_answer pijorrel_translate(const uint8_t *image, size_t image_len
 
 /* ---- the new core ----
  *
- * Its state: 37 numbers.
+ * Its state: 38 numbers.
  *   0 to 31  registers     33  record number     35  end, 36 the number beside it
- *   32       flags         34  held address
+ *   32       flags         34  held address      37  Y
  * They are read and left as the old core's are. All bytes 0 are the start values. */
-#define PIJORREL_NEW_STATE 148
+#define PIJORREL_NEW_STATE 152
 
-/* Begins at the first record of the address's lowest-numbered plain place, with held address 0; keeps registers and
+/* Begins at the first record of the address's lowest-numbered plain place, with held address 0; keeps registers, Y and
  * flags. With no such place the run ends at once: 2 outside the image, 6 inside, record number 0. Answers how the run
  * stands, as the state does.
  *   places, places_length        the table
@@ -165,10 +166,16 @@ struct pijorrel_end pijorrel_new_run(const uint8_t *records, size_t records_leng
  *   3  rs1
  *   4  0 where the second operand is a register; any other number counts as 1, a constant
  *   5  the second register's number, the constant, or the displacement in words; negative ones modulo 2^32
- * A number that the form does not have is 0 when read, and not looked at when written. Registers have 5 bits, a condition
- * 4; a constant 13 with its sign, a shift's 5, a Ticc's 7 and sethi's 22 without; a displacement 22 of Bicc and 30 of
- * call, with its sign. A word with an unused bit set is not known, here as to both cores and the translator: bits 12 to 5
- * beside a register and above a shift's constant, bits 12 to 7 above a Ticc's, bit 29 of a Ticc. */
+ * A number that the form does not have is 0 when read, and not looked at when written. Registers have 5 bits, a
+ * condition 4; a constant 13 with its sign, a shift's 5, a Ticc's 7 and sethi's 22 without; a displacement 22 of Bicc
+ * and 30 of call, with its sign. A word with an unused bit set is not known, here as to both cores and the translator:
+ * bits 12 to 5 beside a register and above a shift's constant, bits 12 to 7 above a Ticc's, bit 29 of a Ticc.
+ *
+ * Products and Y. The forms of umul, smul, umulcc and smulcc are 138, 139, 154 and 155: the high 32 bits of the product
+ * go to Y, the low ones to rd, and the last two set N and Z from the low ones and clear V and C. rdy, form 168, copies
+ * Y to rd and has no other number; a word with its op3 and any of bits 18 to 0 set is not known. wry, form 176, writes
+ * rs1 xor the second operand to Y, where the next word finds it; it has no rd, and with any of bits 29 to 25 set it is
+ * not known. */
 #define PIJORREL_INSTRUCTION 24
 
 /* 0 and the word; or 7 and the bits of the field that a number does not fit, of several the highest in the word, and 0

@@ -46,12 +46,17 @@ def definitions():
 
 
 def copy_crates(work):
-    """The definitions with what they need. Of model's proofs only those of its functions: equations need no law."""
+    """The definitions with what they need. Of model's laws only those that its functions' proofs cite: equations need none."""
     for crate in CRATES:
         for part in ("src", "specs", "proofs"):
             shutil.copytree(TOP / "crates" / crate / part, work / "crates" / crate / part)
-    for law in (work / "crates" / "model" / "proofs").glob("*.antt"):
-        law.unlink()
+    proofs = work / "crates" / "model" / "proofs"
+    texts = "".join(proof.read_text() for proof in proofs.glob("*/Proof.antt"))
+    cited = sorted(set(re.findall(r"^use Rattle\.model\.proofs\.(\w+)\.\{", texts, re.MULTILINE)))
+    for law in proofs.glob("*.antt"):
+        if law.stem not in cited:
+            law.unlink()
+    (proofs / "Lib.antt").write_text("".join(f"pub mod {law}\n" for law in cited))
     for crate in CRATES:  # what the repository has proved, and has not changed since, is not proved again
         for made in (f"rlib/{crate}.rlib", f"stamp/{crate}"):
             if (TOP / "target" / made).exists():

@@ -120,8 +120,11 @@ def over_term(places, records, trail):
 
 
 def trail_term(case, name, without_end):
-    """A trail's entries, how it closes, the steps between and before them, and what closes it."""
-    entries = [f"entry {row[0]} (machine {listed(row[1:33])} {row[33]} {listed(row[34:])})"
+    """A trail's entries, how it closes, the steps between and before them, and what closes it.
+
+    An entry's registers are 33 numbers, Y the last of them.
+    """
+    entries = [f"entry {row[0]} (machine {listed(row[1:34])} {row[34]} {listed(row[35:])})"
                for row in case.lines[name]]
     end, number = case.lines[name + "_close"]
     between = case.lines[name + "_steps"][:-1]
@@ -137,8 +140,8 @@ def abbreviation(name, kind, term):
 def given(case):
     """What the equations of a case have in common."""
     n = case.number
-    start = (f"record {{ address = {case.address[0]}; registers = {listed(case.registers)}; flags = {case.flags[0]};"
-             f" area = {listed(case.data)} }}")
+    start = (f"record {{ address = {case.address[0]}; registers = {listed(case.registers + case.y)};"
+             f" flags = {case.flags[0]}; area = {listed(case.data)} }}")
     handed = f"translation image-{n} {case.base[0]} entries-{n} {case.places_length[0]} {case.records_length[0]}"
     yield abbreviation(f"image-{n}", "List ℕ", listed(bytes_of([case.image]) + case.image_tail))
     yield abbreviation(f"entries-{n}", "List ℕ", listed(bytes_of([case.entries]) + case.entries_tail))

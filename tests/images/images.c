@@ -11,26 +11,28 @@
 #include "runs.h"
 #include "stored.h"
 
-enum { LEAST_PROGRAMS = 6, LEAST_WITH_UNIMPS = 3 };
+enum { LEAST_PROGRAMS = 6, LEAST_WITH_UNIMPS = 3, LEAST_WITH_PRODUCTS = 3 };
 
 /* What --spoil changes: a record that the run comes to, or one of QEMU's numbers. The last is no spoiling: every unimp
  * behind a call. */
-enum spoiled { NOTHING, RECORD, PATH, DIGEST, REGISTER, DATA, RESULT, SPOILS, UNIMPS };
+enum spoiled { NOTHING, RECORD, PATH, DIGEST, REGISTER, Y, DATA, RESULT, SPOILS, UNIMPS };
 
-static const char *const spoil_names[SPOILS] = { "nothing", "record", "path", "digest", "register", "data", "result" };
+static const char *const spoil_names[SPOILS] = { "nothing", "record", "path", "digest", "register", "y", "data",
+                                                 "result" };
 
 static struct {
     unsigned long images, words, pairs, differ, unimps;
     struct counts runs;
-    bool there[MOST_PROGRAMS][LEVELS];
+    bool there[MOST_PROGRAMS][LEVELS], multiplies[MOST_PROGRAMS][LEVELS];
 } seen;
 
 /* One bit of what is recorded, in the file's bytes. */
 static void spoil_recorded(const struct stored *image, enum spoiled spoiled, uint8_t *bytes)
 {
     const uint8_t *const at[UNIMPS + 1] = { [PATH] = image->path + 4 * (image->run_count / 2) + 1,
-                                        [DIGEST] = image->last + REGISTERS_AND_FLAGS,
+                                        [DIGEST] = image->last_y + 4,
                                         [REGISTER] = image->last + 4 * 17 + 3,
+                                        [Y] = image->last_y,
                                         [DATA] = image->after + (image->area_length - image->image_length) / 2,
                                         [RESULT] = image->results + 3 };
     if (at[spoiled])
@@ -40,7 +42,7 @@ static void spoil_recorded(const struct stored *image, enum spoiled spoiled, uin
 /* Images without a call that returns a record are passed over where those are asked for. */
 static void check(const struct stored *image, enum spoiled spoiled)
 {
-    unsigned long unimps = seen.unimps;
+    unsigned long unimps = seen.unimps, products = seen.runs.products;
     const char *what = spoiled == UNIMPS ? check_without_unimps(image, &seen.unimps)
                                          : check_image(image, spoiled == RECORD, &seen.runs);
     if (spoiled == UNIMPS && seen.unimps == unimps)
@@ -49,6 +51,7 @@ static void check(const struct stored *image, enum spoiled spoiled)
     seen.words += image->image_length / 4;
     seen.pairs += image->pairs;
     seen.there[image->program][image->level] = true;
+    seen.multiplies[image->program][image->level] = seen.runs.products > products;
     if (what && seen.differ++ == 0)
         printf("images: %s at %s: %s\n", image->name, level_names[image->level], what);
 }
@@ -72,17 +75,29 @@ static bool check_file(uint8_t *bytes, size_t length, enum spoiled spoiled)
     return count > 0 && at == end;
 }
 
-/* The programs that are there at all levels. */
-static int whole_programs(void)
+/* The programs of which something is so at all levels. */
+static int at_all_levels(bool so[MOST_PROGRAMS][LEVELS])
 {
     int programs = 0;
     for (int p = 0; p < MOST_PROGRAMS; p++) {
         int levels = 0;
         for (int level = 0; level < LEVELS; level++)
-            levels += seen.there[p][level];
+            levels += so[p][level];
         programs += levels == LEVELS;
     }
     return programs;
+}
+
+static int whole_programs(void)
+{
+    return at_all_levels(seen.there);
+}
+
+/* Enough programs, and of those that multiply, with Y read and written too. */
+static bool enough(void)
+{
+    return whole_programs() >= LEAST_PROGRAMS && at_all_levels(seen.multiplies) >= LEAST_WITH_PRODUCTS
+        && seen.runs.reads > 0 && seen.runs.writes > 0;
 }
 
 static enum spoiled spoil_asked(int count, char **words)
@@ -104,6 +119,8 @@ static void print_seen(void)
            seen.images, whole_programs(), seen.words, seen.pairs, runs->places, runs->records);
     printf("images: %lu entries compared (%lu words passed, %lu records done), %lu images differ\n", runs->entries,
            runs->old_steps, runs->new_steps, seen.differ);
+    printf("images: %d programs multiply at all levels; products %lu, rdy %lu, wry %lu\n",
+           at_all_levels(seen.multiplies), runs->products, runs->reads, runs->writes);
 }
 
 /* Each must have ended with 6, and there must be enough of them. */
@@ -121,7 +138,8 @@ int main(int count, char **words)
     static uint8_t bytes[LARGEST_FILE];
     enum spoiled spoiled = spoil_asked(count, words);
     if (spoiled == SPOILS) {
-        fprintf(stderr, "usage: images [--spoil record|path|digest|register|data|result | --without-unimps] FILE\n");
+        fprintf(stderr,
+                "usage: images [--spoil record|path|digest|register|y|data|result | --without-unimps] FILE\n");
         return 2;
     }
     if (!check_file(bytes, read_file(words[count - 1], bytes), spoiled)) {
@@ -137,5 +155,5 @@ int main(int count, char **words)
         print_seen();
     if (seen.differ > 0)
         return spoiled && seen.differ < seen.images ? 2 : 1;
-    return whole_programs() >= LEAST_PROGRAMS ? 0 : 2;
+    return enough() ? 0 : 2;
 }

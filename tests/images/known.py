@@ -1,6 +1,7 @@
 """What each program has to leave in its results, worked out apart from it, in other ways where there are some."""
 import zlib
 from itertools import permutations
+from math import prod
 
 MASK = 0xFFFFFFFF
 
@@ -17,6 +18,11 @@ def drawn(state):
 def signed(number, bits=32):
     number &= (1 << bits) - 1
     return number - (number >> bits - 1 << bits)
+
+
+def wide(number):
+    """Both words of a number of 64 bits."""
+    return [number >> 32 & MASK, number & MASK]
 
 
 def take(numbers, count):
@@ -113,11 +119,9 @@ def checksum():
     high = sum((64 - i) * byte for i, byte in enumerate(data)) % 255
     value = 0xCBF29CE484222325
     for byte in data[:32]:
-        value = ((value * 2**7 | value // 2**57) % 2**64 + byte) % 2**64
-        value -= value // 8
+        value = (value ^ byte) * 0x100000001B3 % 2**64
     total = sum((1, 2**64 - 1, 0x1FFFFFFFF, 2**63, 2**32 - 1)) % 2**64
-    return [zlib.crc32(data[:24]), zlib.crc32(data), zlib.adler32(data), high << 8 | low, value >> 32, value & MASK,
-            total >> 32, total & MASK]
+    return [zlib.crc32(data[:24]), zlib.crc32(data), zlib.adler32(data), high << 8 | low, *wide(value), *wide(total)]
 
 
 def bays():
@@ -179,8 +183,102 @@ def formula():
     return [eval(letters) for letters in formulas] + [lengths, 20460 - 60]
 
 
+def tickets():
+    """The last state by the sum of a geometric series."""
+    factor, first, prime, modulus = 6364136223846793005, 20461116, 2**31 - 1, 2**32 - 5
+
+    def state(turns):
+        power = pow(factor, turns, (factor - 1) << 64)
+        return (power * first + (power - 1) // (factor - 1) * 1442695040888963407) % 2**64
+    numbers = [state(turn) >> 32 for turn in range(1, 25)]
+    product, reduction, every = 1, pow(2, -32 * 24, modulus), 0
+    for number in numbers:
+        product = product * (number // 2 | 1) % prime
+        reduction = reduction * number % modulus
+        every ^= number
+    products = state(24) * (2**64 - 1 - state(24)), (2**64 - 1)**2
+    return [*wide(state(24)), every, product, reduction, pow(7, numbers[0], prime), pow(product, -1, prime), 1,
+            *(half for whole in products for number in divmod(whole, 2**64) for half in wide(number))]
+
+
+def decks():
+    """Areas by trapezoids, and the determinant by permutations."""
+    numbers = drawn(141421356)
+    corners = [tuple(signed(number) >> 3 for number in take(numbers, 2)) for _ in range(9)]
+    rows = [[signed(number) >> 18 for number in take(numbers, 4)] for _ in range(4)]
+
+    def area(at):
+        return sum((x - u) * (y + v) for (x, y), (u, v) in zip(at, at[1:] + at[:1]))
+
+    def turned(x, y):
+        cosine, sine = int(0.6 * 2**30), int(0.8 * 2**30)
+        return (cosine * x - sine * y) // 2**30, (sine * x + cosine * y) // 2**30
+
+    def sign(order):
+        return (-1)**sum(a > b for at, b in enumerate(order) for a in order[:at])
+    determinant = sum(sign(order) * prod(row[at] for row, at in zip(rows, order)) for order in permutations(range(4)))
+    longest = max((x - u)**2 + (y - v)**2 for x, y in corners for u, v in corners)
+    after = [turned(*turned(*corner)) for corner in corners]
+    curves = [3 * at**4 - 14 * at**3 + 159 * at**2 - 2653 * at + 5897 for at in (-4097, 4099)]
+    return [*wide(area(corners)), *wide(area(corners[:3])), *wide(longest), *wide(determinant), *wide(area(after)),
+            *after[4], *wide(curves[0]), *wide(curves[1])]
+
+
+def lens():
+    """Rounded shifts as divisions by whole numbers."""
+    def rounded(number, bits):
+        return (number + 2**(bits - 1)) // 2**bits
+
+    def limited(number, bits):
+        return max(-2**(bits - 1), min(2**(bits - 1) - 1, number))
+
+    def followed(samples, part):
+        at = 0
+        for sample in samples:
+            at += rounded((2**15 * sample - at) * part, 31)
+        return at
+    seen = [signed(number, 16) for number in take(drawn(173205080), 30)]
+    taps = [-1200, 3100, 9800, 16100, 15900, 9700, 3200, -1100]
+    smooth = [0] * 7 + [limited(rounded(sum(a * b for a, b in zip(taps, reversed(seen[at - 7:at + 1]))), 15), 16)
+                        for at in range(7, 30)]
+    given, out = [0, 0] + [2**16 * sample for sample in seen], [0, 0]
+    for at in range(2, 32):
+        total = 72429508 * (given[at] + 2 * given[at - 1] + given[at - 2]) + 1227265969 * out[-1] - 443242177 * out[-2]
+        out.append(limited(rounded(total, 30), 32))
+    mixtures = [0] * 4
+    for at, number in enumerate(out[2:]):
+        mixtures[at % 4] ^= number
+    return [*smooth[29:4:-5], sum(sample in (-2**15, 2**15 - 1) for sample in smooth), *mixtures, out[-1],
+            followed(seen, 429496730), followed(smooth, 1288490189), *wide(sum(sample**2 for sample in smooth)),
+            -2**31 + 1]
+
+
+def fees():
+    """By divisions."""
+    numbers = drawn(223606797)
+    each = [115 * -(-(number % 4096) // 60) for number in take(numbers, 10)]
+    total, any_number, factor = sum(each), signed(next(numbers)), next(numbers)
+
+    def digits(number):
+        return int(str(number)[-8:], 16)
+
+    def seventh(number):
+        return abs(number) // 7 * (1 if number > 0 else -1)
+
+    def signs(number):
+        return sum(signed(number**times) < 0 for times in range(2, 42))
+    amount = total
+    for _ in range(30):
+        amount = amount * 67502 // 2**16
+    high, low = wide(factor * 4042322161)
+    return [total, sum((21 * cents + 50) // 100 for cents in each), digits(total), digits(MASK) ^ MASK // 60,
+            seventh(-2**31), seventh(2**31 - 1), seventh(any_number), *wide(amount), signs(-3), signs(544),
+            high ^ low * 4042322161, 1, factor ^ total ^ -1366, MASK // 100]
+
+
 PROGRAMS = {maker.__name__: maker
-            for maker in (sort, search, functions, choose, recursion, text, checksum, bays, stays, turns, formula)}
+            for maker in (sort, search, functions, choose, recursion, text, checksum, bays, stays, turns, formula,
+                          tickets, decks, lens, fees)}
 
 
 def known(name):

@@ -6,8 +6,8 @@
 #include "pijorrel.h"
 
 enum { PLACES = 8192, RECORDS = 2 * PLACES, MOST_STEPS = 1 << 20, NO_GROUP = -1, TRAP_TAKEN = 1 };
-enum { PC = 33, ANNUL = 35, RECORD_NUMBER = 33, UNPLACED = 6 };
-enum { OP2_BIT = 1 << 22 };
+enum { PC = 33, ANNUL = 35, OLD_Y = 38, RECORD_NUMBER = 33, NEW_Y = 37, UNPLACED = 6 };
+enum { OP2_BIT = 1 << 22, NOP = 0x01000000 };
 
 /* A run of one core; the state has room for either. */
 struct run {
@@ -105,7 +105,7 @@ static void to_next_new(const struct stored *image)
 
 static bool same_machine(const struct stored *image)
 {
-    return memcmp(old.state, new.state, REGISTERS_AND_FLAGS) == 0
+    return memcmp(old.state, new.state, REGISTERS_AND_FLAGS) == 0 && number_in(&old, OLD_Y) == number_in(&new, NEW_Y)
         && memcmp(old.data, new.data, image->area_length) == 0;
 }
 
@@ -123,6 +123,7 @@ struct path {
     size_t run;      /* of the path, counted from 0 */
     uint32_t within; /* words of it that are passed */
     uint64_t entries, digest;
+    unsigned long products, reads, writes; /* words that multiply, read Y and write it alone */
 };
 
 /* Whether an entry is the path's next one. */
@@ -145,12 +146,27 @@ static void mix(struct path *path, uint32_t number)
     path->digest = (path->digest ^ number) * 0x100000001B3u;
 }
 
-static void mix_entry(struct path *path, uint32_t address, const uint8_t *machine)
+/* The old core's entry. */
+static void mix_entry(struct path *path)
 {
     path->entries++;
-    mix(path, address);
-    for (int k = 0; k < REGISTERS_AND_FLAGS; k += 4)
-        mix(path, word_at(machine + k));
+    mix(path, number_in(&old, PC));
+    for (int k = 0; k < REGISTERS_AND_FLAGS / 4; k++)
+        mix(path, number_in(&old, k));
+    mix(path, number_in(&old, OLD_Y));
+}
+
+/* Counts the word that an entry stands at, if it is one with Y. */
+static void count_word(const struct stored *image, struct path *path)
+{
+    uint32_t at = number_in(&old, PC) - image->base, word, op3;
+    if ((uint64_t)at + 4 > image->image_length)
+        return;
+    word = word_at(image->image + at);
+    op3 = word >> 30 == 2 ? word >> 19 & 63 : 0;
+    path->products += (op3 & 0x2E) == 0x0A; /* signed or not, with flags or without */
+    path->reads += op3 == 0x28;
+    path->writes += op3 == 0x30;
 }
 
 /* ---- whole runs */
@@ -163,7 +179,8 @@ static const char *differ_on_the_way(const struct stored *image, struct path *pa
             return "the cores' entries differ";
         if (!on_path(image, path, number_in(&old, PC)))
             return "another path than QEMU's";
-        mix_entry(path, number_in(&old, PC), old.state);
+        mix_entry(path);
+        count_word(image, path);
         to_next_old(image);
         to_next_new(image);
     }
@@ -185,9 +202,11 @@ static const char *differ_from_record(const struct stored *image, const struct p
     if (path->entries != image->entry_count || path->run != image->run_count)
         return "another number of entries than QEMU's";
     if (path->digest != image->digest)
-        return "registers or flags on the way are not QEMU's";
+        return "registers, flags or Y on the way are not QEMU's";
     if (memcmp(old.state, image->last, REGISTERS_AND_FLAGS) != 0)
         return "registers or flags at the end are not QEMU's";
+    if (number_in(&old, OLD_Y) != word_at(image->last_y))
+        return "Y at the end is not QEMU's";
     if (memcmp(old.data, image->image, length) != 0
         || memcmp(old.data + length, image->after, image->area_length - length) != 0)
         return "the data at the end is not QEMU's";
@@ -215,10 +234,21 @@ static const char *differ_in_strides(const struct stored *image, uint16_t count)
 
 /* ---- a record spoiled */
 
-/* The place that is run in the middle of the path. */
+/* Whether a run of the path begins with a nop, which stays one with another constant. */
+static bool begins_with_nop(const struct stored *image, size_t run)
+{
+    size_t at = 4 * (size_t)half_at(image->path + 4 * run);
+    return at + 4 <= image->image_length && word_at(image->image + at) == NOP;
+}
+
+/* A place that is run in the middle of the path. */
 static size_t place_in_middle(const struct stored *image)
 {
-    uint32_t address = image->base + 4 * half_at(image->path + 4 * (image->run_count / 2));
+    size_t run = image->run_count / 2;
+    uint32_t address;
+    while (run + 1 < image->run_count && begins_with_nop(image, run))
+        run++;
+    address = image->base + 4 * half_at(image->path + 4 * run);
     for (size_t k = 0; k < place_count; k++)
         if (word_at(places + 16 * k) == address)
             return k;
@@ -295,11 +325,14 @@ static void add_counts(const struct path *path, struct counts *counts)
     counts->entries += path->entries;
     counts->old_steps += old.steps;
     counts->new_steps += new.steps;
+    counts->products += path->products;
+    counts->reads += path->reads;
+    counts->writes += path->writes;
 }
 
 const char *check_image(const struct stored *image, bool spoil, struct counts *counts)
 {
-    struct path path = { 0, 0, 0, 0xCBF29CE484222325u };
+    struct path path = { .digest = 0xCBF29CE484222325u };
     const char *what;
     if (!translated(image))
         return "refused by the translator";

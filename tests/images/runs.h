@@ -7,6 +7,7 @@
 /* What was seen of all images so far. */
 struct counts {
     unsigned long places, records, entries, old_steps, new_steps;
+    unsigned long products, reads, writes; /* entries at words that multiply, read Y, and write it alone */
 };
 
 /* What differs, or NULL. If asked, one bit of a record in the middle of the run is spoiled before it. */

@@ -54,6 +54,7 @@ bool take_image(const uint8_t **at, const uint8_t *end, struct stored *image)
     image->results = take(at, end, 4 * image->result_count);
     image->path = take(at, end, 4 * image->run_count);
     image->last = take(at, end, REGISTERS_AND_FLAGS);
+    image->last_y = take(at, end, 4);
     digest = take(at, end, 8);
     image->after = take(at, end, image->area_length - image->image_length);
     if (!image->after)

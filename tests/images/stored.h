@@ -11,7 +11,7 @@ enum { REGISTERS_AND_FLAGS = 132, LEVELS = 5, MOST_PROGRAMS = 32, LONGEST_AREA =
 struct stored {
     char name[17];
     uint32_t program, level, base;
-    const uint8_t *image, *entries, *given, *results, *path, *last, *after;
+    const uint8_t *image, *entries, *given, *results, *path, *last, *last_y, *after;
     size_t image_length, entries_length, area_length, given_length, results_at, result_count, run_count, pairs;
     uint64_t entry_count, digest;
 };

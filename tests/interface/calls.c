@@ -128,10 +128,10 @@ static bool holds_padded(const struct area *area, const struct area *known)
         && (known->length == 0 || memcmp(area->bytes, known->bytes, known->length) == 0);
 }
 
-/* The last two numbers of a state are the end and its number, and an answer is the same two. */
+/* The end and its number stand in a state before Y, the last one, and an answer is the same two. */
 static bool ends_so(const struct pijorrel_end *end, const struct area *known)
 {
-    const uint8_t *at = known->bytes + known->length - 8;
+    const uint8_t *at = known->bytes + known->length - 12;
     ends[number_at(at) % 8]++;
     return end->end == number_at(at) && end->number == number_at(at + 4);
 }

@@ -5,7 +5,7 @@
 #include <stdio.h>
 #include <string.h>
 
-enum { GUARD = 16, FLAGS = 32, PC = 33, NPC = 34, ANNUL = 35, END = 36, NUMBER = 37 };
+enum { GUARD = 16, FLAGS = 32, PC = 33, NPC = 34, ANNUL = 35, END = 36, NUMBER = 37, OLD_Y = 38, NEW_Y = 37 };
 
 static int checks, failures;
 
@@ -100,6 +100,7 @@ static void any_state(void)
     CHECK(number_at(g.state, 0) == 0 && number_at(g.state, 31) == 0xFFFFFFFF);
     CHECK(number_at(g.state, FLAGS) == 15 && number_at(g.state, ANNUL) == 1);
     CHECK(number_at(g.state, END) == 0 && number_at(g.state, NUMBER) == 0);
+    CHECK(number_at(g.state, OLD_Y) == 0xFFFFFFFF);
     put_number(g.state, END, 7);
     put_number(g.state, NUMBER, 99);
     end = pijorrel_old_run(NULL, 0, 0, 0, g.state, NULL, 0, 5);
@@ -108,6 +109,7 @@ static void any_state(void)
     CHECK(number_at(g.state, PC) == 0xFFFFFFFE && number_at(g.state, NPC) == 2);
     CHECK(number_at(g.state, ANNUL) == 0 && number_at(g.state, END) == 0 && number_at(g.state, NUMBER) == 0);
     CHECK(number_at(g.state, 31) == 0xFFFFFFFF && number_at(g.state, FLAGS) == 15);
+    CHECK(number_at(g.state, OLD_Y) == 0xFFFFFFFF);
     CHECK(guards_stand(&g));
 }
 
@@ -274,6 +276,8 @@ static const struct known_word known_words[] = {
     { { 134, 0, 3, 1, 0, 2 }, 0x86304002 },            /* orn %g1, %g2, %g3 */
     { { 135, 0, 7, 0, 0, 7 }, 0x8E380007 },            /* xnor %g0, %g7, %g7 */
     { { 136, 0, 10, 8, 0, 9 }, 0x94420009 },           /* addx %o0, %o1, %o2 */
+    { { 138, 0, 1, 2, 0, 3 }, 0x82508003 },            /* umul %g2, %g3, %g1 */
+    { { 139, 0, 17, 16, 1, 0xFFFFFFFF }, 0xA25C3FFF }, /* smul %l0, -1, %l1 */
     { { 140, 0, 10, 8, 1, 0 }, 0x94622000 },           /* subx %o0, 0, %o2 */
     { { 144, 0, 1, 2, 0, 3 }, 0x82808003 },            /* addcc %g2, %g3, %g1 */
     { { 145, 0, 17, 16, 1, 0xFFFFFFFF }, 0xA28C3FFF }, /* andcc %l0, -1, %l1 */
@@ -284,10 +288,14 @@ static const struct known_word known_words[] = {
     { { 150, 0, 3, 1, 0, 2 }, 0x86B04002 },            /* orncc %g1, %g2, %g3 */
     { { 151, 0, 7, 0, 0, 7 }, 0x8EB80007 },            /* xnorcc %g0, %g7, %g7 */
     { { 152, 0, 10, 8, 0, 9 }, 0x94C20009 },           /* addxcc %o0, %o1, %o2 */
+    { { 154, 0, 29, 31, 0, 30 }, 0xBAD7C01E },         /* umulcc %i7, %i6, %i5 */
+    { { 155, 0, 14, 14, 1, 0xFFFFF000 }, 0x9CDBB000 }, /* smulcc %o6, -4096, %o6 */
     { { 156, 0, 10, 8, 1, 0 }, 0x94E22000 },           /* subxcc %o0, 0, %o2 */
     { { 165, 0, 2, 1, 1, 31 }, 0x8528601F },           /* sll %g1, 31, %g2 */
     { { 166, 0, 3, 1, 0, 2 }, 0x87304002 },            /* srl %g1, %g2, %g3 */
     { { 167, 0, 25, 24, 1, 0 }, 0xB33E2000 },          /* sra %i0, 0, %i1 */
+    { { 168, 0, 17, 0, 0, 0 }, 0xA3400000 },           /* rd %y, %l1 */
+    { { 176, 0, 0, 24, 1, 4095 }, 0x81862FFF },        /* wr %i0, 4095, %y */
     { { 184, 0, 0, 15, 1, 8 }, 0x81C3E008 },           /* jmpl %o7 + 8, %g0 */
     { { 186, 0, 8, 1, 1, 127 }, 0x91D0607F },          /* ta %g1 + 127 */
     { { 192, 0, 3, 1, 0, 2 }, 0xC6004002 },            /* ld [%g1 + %g2], %g3 */
@@ -392,6 +400,26 @@ static void each_field(void)
     CHECK(is_word(written(64, 0, 0, 0, 0, 0xE0000000), 0x60000000) && unfit(written(64, 0, 0, 0, 0, 0xDFFFFFFF), 30));
 }
 
+/* The same of products, rdy and wry. */
+static void each_field_with_y(void)
+{
+    static const uint32_t products[] = { 138, 139, 154, 155 };
+    for (int i = 0; i < 4; i++) {
+        uint32_t form = products[i], bits = 2u << 30 | (form - 128) << 19;
+        CHECK(is_word(written(form, 0, 31, 31, 0, 31), bits | 0x3E07C01F));
+        CHECK(is_word(written(form, 0, 31, 31, 1, 4095), bits | 0x3E07EFFF));
+        CHECK(is_word(written(form, 0, 0, 0, 1, 0xFFFFF000), bits | 0x3000));
+        CHECK(unfit(written(form, 0, 32, 0, 0, 0), 5) && unfit(written(form, 0, 0, 32, 0, 0), 5));
+        CHECK(unfit(written(form, 0, 0, 0, 0, 32), 5));
+        CHECK(unfit(written(form, 0, 0, 0, 1, 4096), 13) && unfit(written(form, 0, 0, 0, 1, 0xFFFFEFFF), 13));
+    }
+    CHECK(is_word(written(168, 0, 31, 0, 0, 0), 0xBF400000) && unfit(written(168, 0, 32, 0, 0, 0), 5));
+    CHECK(is_word(written(176, 0, 0, 31, 0, 31), 0x8187C01F) && unfit(written(176, 0, 0, 32, 0, 0), 5));
+    CHECK(unfit(written(176, 0, 0, 0, 0, 32), 5));
+    CHECK(is_word(written(176, 0, 0, 31, 1, 0xFFFFF000), 0x8187F000) && unfit(written(176, 0, 0, 0, 1, 4096), 13));
+    CHECK(unfit(written(176, 0, 0, 0, 1, 0xFFFFEFFF), 13));
+}
+
 /* Of several numbers that do not fit, the one highest in the word counts. */
 static void highest_unfit(void)
 {
@@ -399,6 +427,7 @@ static void highest_unfit(void)
     CHECK(unfit(written(186, 0, 16, 32, 1, 128), 4) && unfit(written(186, 0, 0, 32, 1, 128), 5));
     CHECK(unfit(written(186, 0, 16, 0, 0, 32), 4) && unfit(written(2, 0, 16, 0, 0, 0x200000), 4));
     CHECK(unfit(written(4, 0, 32, 0, 0, 0x400000), 5));
+    CHECK(unfit(written(155, 0, 32, 32, 1, 4096), 5) && unfit(written(176, 32, 32, 32, 1, 4096), 5));
 }
 
 /* Numbers that a form does not have are not looked at; of annul and of the mark any but 0 counts as 1. */
@@ -410,6 +439,9 @@ static void numbers_beside(void)
     CHECK(is_word(written(2, 0, 8, any, any, 1), 0x10800001));
     CHECK(is_word(written(128, any, 1, 2, 0, 3), 0x82008003));
     CHECK(is_word(written(186, any, 8, 0, 1, 0), 0x91D02000));
+    CHECK(is_word(written(138, any, 1, 2, 0, 3), 0x82508003));
+    CHECK(is_word(written(168, any, 17, any, any, any), 0xA3400000)); /* no rs1 and no second operand */
+    CHECK(is_word(written(176, any, any, 24, any, 4095), 0x81862FFF)); /* no rd */
     for (uint32_t one = 1; one != 0; one <<= 1) {
         CHECK(is_word(written(2, one, 8, 0, 0, 1), 0x30800001) && is_word(written(128, 0, 1, 2, one, 3), 0x8200A003));
         CHECK(is_word(written(165, 0, 2, 1, one, 7), 0x85286007));
@@ -426,19 +458,49 @@ static int strays(uint32_t word, int low)
     return count;
 }
 
-/* Each unused bit, and none of those of a constant of thirteen. */
+/* Each unused bit, and none of those of a constant of thirteen; bit 29 of a Ticc, and of a wry, which has no rd. */
 static void unused_bits(void)
 {
     for (int i = 0; i < FORMS; i++) {
         uint32_t form = known_words[i].six[0];
-        if (form < 128)
+        if (form < 128 || form == 168)
             continue;
         uint32_t bare = form / 64 << 30 | form % 64 << 19, constant = bare | 1u << 13;
-        int low = form == 186 ? 7 : form >= 165 && form <= 167 ? 5 : 13;
+        int low = form == 186 ? 7 : form >= 165 && form <= 167 ? 5 : 13, top = form == 186 || form == 176;
         CHECK(!is_unknown(bare) && strays(bare, 5) == 8 && strays(bare, 0) == 8);
         CHECK(!is_unknown(constant) && strays(constant, low) == 13 - low && strays(constant, 0) == 13 - low);
-        CHECK(is_unknown(bare | 1u << 29) == (form == 186) && is_unknown(constant | 1u << 29) == (form == 186));
+        CHECK(is_unknown(bare | 1u << 29) == top && is_unknown(constant | 1u << 29) == top);
     }
+}
+
+static int ends_the_old_core(uint32_t word)
+{
+    uint8_t image[4];
+    struct guarded g = fresh(0);
+    put_number(image, 0, word);
+    struct pijorrel_end end = pijorrel_old_run(image, 4, 0, 0, g.state, NULL, 0, 1);
+    return end.end == 3 && end.number == 0;
+}
+
+static int unfit_for_kind(uint32_t kind, uint32_t word)
+{
+    uint8_t list[12], state[PIJORREL_NEW_STATE] = { 0 };
+    put_number(list, 0, kind);
+    put_number(list, 1, word);
+    put_number(list, 2, 0);
+    struct pijorrel_end end = pijorrel_new_run(list, 12, NULL, 0, 0, 4, 0, state, NULL, 0, 1);
+    return end.end == 7 && end.number == 0;
+}
+
+/* In the delay slot of jmpl %o7, %g0: the word is illegal, and no transfer. */
+static int translates_to_an_end(uint32_t word)
+{
+    uint8_t image[8], table[32], made[48], entry[4] = { 0 };
+    put_number(image, 0, 0x81C3C000);
+    put_number(image, 1, word);
+    struct pijorrel_answer a = pijorrel_translate(image, 8, 0, entry, 4, table, 32, made, 48);
+    return a.number == 0 && a.first == 2 && a.second == 3 && number_at(made, 6) == 7 && number_at(made, 7) == 3
+        && number_at(made, 8) == 4;
 }
 
 /* xor %g1, %g2, %g3 and jmpl %o7, %g0, each with bit 5 set, where the cores and the translator read them. */
@@ -446,22 +508,158 @@ static void unused_bits_elsewhere(void)
 {
     static const uint32_t words[] = { 0x86184002 | 1u << 5, 0x81C3C000 | 1u << 5 };
     for (uint32_t i = 0; i < 2; i++) {
-        uint8_t image[8], list[12], table[32], made[48], entry[4] = { 0 }, state[PIJORREL_NEW_STATE] = { 0 };
-        struct guarded g = fresh(0);
-        put_number(image, 0, words[i]);
-        put_number(image, 1, words[i]);
-        struct pijorrel_end end = pijorrel_old_run(image, 4, 0, 0, g.state, NULL, 0, 1);
-        CHECK(end.end == 3 && end.number == 0);
-        put_number(list, 0, 1 + 2 * i); /* kind 1, or 3 for the jmpl */
-        put_number(list, 1, words[i]);
-        put_number(list, 2, 0);
-        end = pijorrel_new_run(list, 12, NULL, 0, 0, 4, 0, state, NULL, 0, 1);
-        CHECK(end.end == 7 && end.number == 0);
-        put_number(image, 0, 0x81C3C000); /* jmpl %o7, %g0: the word in its delay slot is illegal, and no transfer */
-        struct pijorrel_answer a = pijorrel_translate(image, 8, 0, entry, 4, table, 32, made, 48);
-        CHECK(a.number == 0 && a.first == 2 && a.second == 3);
-        CHECK(number_at(made, 6) == 7 && number_at(made, 7) == 3 && number_at(made, 8) == 4);
+        CHECK(ends_the_old_core(words[i]));
+        CHECK(unfit_for_kind(1 + 2 * i, words[i])); /* kind 1, or 3 for the jmpl */
+        CHECK(translates_to_an_end(words[i]));
     }
+}
+
+/* Whether no reader knows a word of op3 10, 11, 26, 27, 40 or 48. */
+static int is_illegal(uint32_t word)
+{
+    return is_unknown(word) && ends_the_old_core(word) && unfit_for_kind(1, word) && translates_to_an_end(word);
+}
+
+/* Each bit that a product, a rdy or a wry may not have, alone, in every reader. */
+static void unused_bits_with_y(void)
+{
+    static const uint32_t operands[] = { 0x82508003, 0x82588003, 0x82D08003, 0x82D88003, 0x81808003 };
+    for (int i = 0; i < 5; i++)
+        for (int bit = 5; bit < 13; bit++)
+            CHECK(is_illegal(operands[i] | 1u << bit));
+    for (int bit = 0; bit < 19; bit++)
+        CHECK(is_illegal(0xA3400000 | 1u << bit)); /* rd %y, %l1: bits 13 to 0, and rs1 */
+    for (int bit = 25; bit < 30; bit++) {
+        CHECK(is_illegal(0x81808003 | 1u << bit) && is_illegal(0x81862FFF | 1u << bit)); /* the rd of a wr */
+        CHECK(!is_unknown(0x81400000 | 1u << bit));                                      /* that of a rd */
+    }
+}
+
+/* ---- products and Y */
+
+/* Register 1 is 2^31, register 2 is -2, register 3 is 9, Y is 7 and all flags are set. */
+static void put_machine(uint8_t *state, int y)
+{
+    put_number(state, 1, 0x80000000);
+    put_number(state, 2, 0xFFFFFFFE);
+    put_number(state, 3, 9);
+    put_number(state, FLAGS, 15);
+    put_number(state, y, 7);
+}
+
+/* A word, and what it leaves in its rd, in Y and in the flags. */
+struct effect {
+    uint32_t word, result, y, flags;
+};
+
+static const struct effect effects[] = {
+    { 0x86504001, 0, 0x40000000, 15 },         /* umul %g1, %g1, %g3 */
+    { 0x86584001, 0, 0x40000000, 15 },         /* smul %g1, %g1, %g3 */
+    { 0x86D04001, 0, 0x40000000, 4 },          /* umulcc %g1, %g1, %g3 */
+    { 0x86D84001, 0, 0x40000000, 4 },          /* smulcc %g1, %g1, %g3 */
+    { 0x86504002, 0, 0x7FFFFFFF, 15 },         /* umul %g1, %g2, %g3 */
+    { 0x86584002, 0, 1, 15 },                  /* smul %g1, %g2, %g3 */
+    { 0x86D0BFFF, 2, 0xFFFFFFFD, 0 },          /* umulcc %g2, -1, %g3 */
+    { 0x86D8BFFF, 2, 0, 0 },                   /* smulcc %g2, -1, %g3 */
+    { 0x86506003, 0x80000000, 1, 15 },         /* umul %g1, 3, %g3 */
+    { 0x86D86003, 0x80000000, 0xFFFFFFFE, 8 }, /* smulcc %g1, 3, %g3 */
+    { 0x84508002, 4, 0xFFFFFFFC, 15 },         /* umul %g2, %g2, %g2 */
+    { 0x80D04001, 0, 0x40000000, 4 },          /* umulcc %g1, %g1, %g0: Y and flags are set all the same */
+    { 0x80D86003, 0, 0xFFFFFFFE, 8 },          /* smulcc %g1, 3, %g0: N of a low word that goes nowhere */
+    { 0x80584001, 0, 0x40000000, 15 },         /* smul %g1, %g1, %g0 */
+    { 0x87400000, 7, 7, 15 },                  /* rd %y, %g3 */
+    { 0x81400000, 0, 7, 15 },                  /* rd %y, %g0 */
+    { 0x81804002, 0, 0x7FFFFFFE, 15 },         /* wr %g1, %g2, %y */
+    { 0x8180BFFF, 0, 1, 15 },                  /* wr %g2, -1, %y */
+};
+
+static void put_effect(uint8_t *state, int y, const struct effect *effect)
+{
+    put_number(state, (int)(effect->word >> 25 & 31), effect->result);
+    put_number(state, FLAGS, effect->flags);
+    put_number(state, y, effect->y);
+}
+
+/* Nothing else changes but the counters. */
+static int done_by_old(const struct effect *effect)
+{
+    uint8_t image[4], known[PIJORREL_OLD_STATE];
+    struct guarded g = fresh(0);
+    put_number(image, 0, effect->word);
+    put_machine(g.state, OLD_Y);
+    memcpy(known, g.state, sizeof known);
+    put_effect(known, OLD_Y, effect);
+    put_number(known, PC, 4);
+    put_number(known, NPC, 8);
+    struct pijorrel_end end = pijorrel_old_run(image, 4, 0, 0, g.state, NULL, 0, 1);
+    return end.end == 0 && memcmp(g.state, known, sizeof known) == 0 && guards_stand(&g);
+}
+
+static int done_by_new(const struct effect *effect)
+{
+    uint8_t list[12], state[PIJORREL_NEW_STATE] = { 0 }, known[PIJORREL_NEW_STATE];
+    put_number(list, 0, 1);
+    put_number(list, 1, effect->word);
+    put_number(list, 2, 0);
+    put_machine(state, NEW_Y);
+    memcpy(known, state, sizeof known);
+    put_effect(known, NEW_Y, effect);
+    put_number(known, 33, 1);
+    struct pijorrel_end end = pijorrel_new_run(list, 12, NULL, 0, 0, 4, 0, state, NULL, 0, 1);
+    return end.end == 0 && memcmp(state, known, sizeof known) == 0;
+}
+
+static void single_products(void)
+{
+    CHECK(PIJORREL_OLD_STATE == 156 && PIJORREL_NEW_STATE == 152);
+    for (size_t i = 0; i < sizeof effects / sizeof *effects; i++) {
+        CHECK(done_by_old(&effects[i]));
+        CHECK(done_by_new(&effects[i]));
+    }
+}
+
+/* Begins keep Y, also where there is no place, and no end changes it. */
+static void y_stays(void)
+{
+    const uint8_t illegal[4] = { 0, 0, 0, 0 };
+    uint8_t state[PIJORREL_NEW_STATE] = { 0 }, table[16] = { 0 };
+    struct guarded g = fresh(0);
+    put_number(g.state, OLD_Y, 0x89ABCDEF);
+    pijorrel_old_begin(0, g.state);
+    CHECK(number_at(g.state, OLD_Y) == 0x89ABCDEF);
+    struct pijorrel_end end = pijorrel_old_run(illegal, 4, 0, 0, g.state, NULL, 0, 1);
+    CHECK(end.end == 3 && number_at(g.state, OLD_Y) == 0x89ABCDEF && guards_stand(&g));
+    memset(state, 0xFF, sizeof state);
+    end = pijorrel_new_run(NULL, 0, NULL, 0, 0, 0, 0, state, NULL, 0, 0);
+    CHECK(end.end == 0 && number_at(state, NEW_Y) == 0xFFFFFFFF && number_at(state, FLAGS) == 15);
+    CHECK(number_at(state, 35) == 0 && number_at(state, 36) == 0);
+    put_number(state, NEW_Y, 0x89ABCDEF);
+    end = pijorrel_new_begin(table, 16, 0, 8, 4, state);
+    CHECK(end.end == 6 && number_at(state, NEW_Y) == 0x89ABCDEF);
+    end = pijorrel_new_begin(table, 16, 0, 8, 0, state);
+    CHECK(end.end == 0 && number_at(state, NEW_Y) == 0x89ABCDEF);
+    end = pijorrel_new_run(NULL, 0, table, 16, 0, 8, 0, state, NULL, 0, 1);
+    CHECK(end.end == 7 && number_at(state, NEW_Y) == 0x89ABCDEF);
+}
+
+/* wr %g0, 1, %y; rd %y, %g3, which has it at once; sethi %hi(0x80000000), %g1; umulcc %g1, %g1, %g2; ta 0. */
+static void a_product_is_translated(void)
+{
+    static const uint32_t words[] = { 0x81802001, 0x87400000, 0x03200000, 0x84D04001, 0x91D02000 };
+    uint8_t image[20], entry[4] = { 0 }, table[80], list[108], state[PIJORREL_NEW_STATE] = { 0 };
+    struct guarded g = fresh(0);
+    for (int i = 0; i < 5; i++)
+        put_number(image, i, words[i]);
+    struct pijorrel_answer a = pijorrel_translate(image, 20, 0, entry, 4, table, 80, list, 108);
+    CHECK(a.number == 0 && a.first == 5 && a.second == 9);
+    for (int i = 0; i < 4; i++)
+        CHECK(number_at(list, 6 * i) == 1 && number_at(list, 6 * i + 1) == words[i]);
+    pijorrel_new_begin(table, 80, 0, 20, 0, state);
+    struct pijorrel_end end = pijorrel_new_run(list, 108, table, 80, 0, 20, 0, state, NULL, 0, 99);
+    CHECK(end.end == 1 && number_at(state, NEW_Y) == 0x40000000 && number_at(state, FLAGS) == 4);
+    end = pijorrel_old_run(image, 20, 0, 0, g.state, NULL, 0, 99);
+    CHECK(end.end == 1 && number_at(g.state, OLD_Y) == 0x40000000 && number_at(g.state, 3) == 1);
+    CHECK(memcmp(state, g.state, 4 * PC) == 0); /* registers and flags */
 }
 
 int main(void)
@@ -478,10 +676,15 @@ int main(void)
     each_form();
     no_other_form();
     each_field();
+    each_field_with_y();
     highest_unfit();
     numbers_beside();
     unused_bits();
     unused_bits_elsewhere();
+    unused_bits_with_y();
+    single_products();
+    y_stays();
+    a_product_is_translated();
     printf("%d of %d checks of the C interface hold\n", checks - failures, checks);
     return failures != 0;
 }

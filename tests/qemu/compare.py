@@ -2,7 +2,7 @@
 """Compares the old core's trails with QEMU's user mode for SPARC, entry by entry, on random programs.
 
 Of each program the library makes the old core's trail, and QEMU logs its state before each word that it runs.
-Address, registers and flags must agree at every entry; the data, through the loads that close each program.
+Address, registers, flags and Y must agree at every entry; the data, through the loads that close each program.
 """
 import argparse
 import itertools
@@ -27,9 +27,9 @@ MOST_STEPS = PROLOGUE + 200
 PAGE = 4096
 TRAP_TAKEN = 1
 BRANCHES = [kind for kind in CONTROL if kind not in ("call", "jmpl")]
-OPERATIONS = [*programs.ARITHMETIC, *programs.SHIFTS, *programs.MEMORY, "jmpl"]
+OPERATIONS = [*programs.ARITHMETIC, *programs.PRODUCTS, *programs.SHIFTS, *programs.MEMORY, "wry", "jmpl"]
 
-Entry = namedtuple("Entry", "address registers flags")
+Entry = namedtuple("Entry", "address registers flags y")
 Run = namedtuple("Run", "end number steps entries data")
 
 
@@ -48,8 +48,8 @@ class Library:
         self.process.stdin.write(struct.pack(">5I", *header) + program.image + program.data)
         self.process.stdin.flush()
         end, number, steps, count = struct.unpack(">4I", self.read(16))
-        rows = struct.iter_unpack(">34I", self.read(count * 34 * 4))
-        entries = [Entry(row[0], row[1:33], row[33]) for row in rows]
+        rows = struct.iter_unpack(">35I", self.read(count * 35 * 4))
+        entries = [Entry(row[0], row[1:33], *row[33:]) for row in rows]
         return Run(end, number, steps, entries, self.read(len(program.data)))
 
     def read(self, length):
@@ -67,7 +67,7 @@ class Qemu:
     """Runs a program in QEMU, a word at a time, and reads its log."""
 
     BLOCK = re.compile(r"pc: (\w+) +npc: \w+\n%g0-7: (.+)\n%o0-7: (.+)\n%l0-7: (.+)\n%i0-7: (.+)\n"
-                       r"psr: \w+ \(icc: ([N-])([Z-])([V-])([C-])")
+                       r"psr: \w+ \(icc: ([N-])([Z-])([V-])([C-]).*\nfsr: \w+ y: (\w+)")
 
     def __init__(self, folder):
         help_text = subprocess.run(["qemu-sparc", "-h"], capture_output=True, text=True).stdout
@@ -98,8 +98,8 @@ class Qemu:
     @staticmethod
     def entry(block):
         registers = tuple(int(number, 16) for number in " ".join(block[1:5]).split())
-        flags = int("".join("0" if flag == "-" else "1" for flag in block[5:]), 2)
-        return Entry(int(block[0], 16), registers, flags)
+        flags = int("".join("0" if flag == "-" else "1" for flag in block[5:9]), 2)
+        return Entry(int(block[0], 16), registers, flags, int(block[9], 16))
 
 
 def limit_files():
@@ -141,7 +141,7 @@ def show_entry(entry):
     if entry is None:
         return "no entry"
     rows = [" ".join(f"{number:08x}" for number in entry.registers[at:at + 8]) for at in range(0, 32, 8)]
-    return f"address {entry.address:08x} flags {entry.flags:04b}\n    " + "\n    ".join(rows)
+    return f"address {entry.address:08x} flags {entry.flags:04b} y {entry.y:08x}\n    " + "\n    ".join(rows)
 
 
 def fail(program, message):
@@ -156,7 +156,7 @@ def check_equal(program, run, logged, status):
     """Entry 0 is passed over: the stack pointer that QEMU hands over is gone from entry 1 on."""
     for number, (ours, theirs) in enumerate(itertools.zip_longest(run.entries, logged)):
         if number > 0 and ours != theirs:
-            fail(program, f"entry {number} differs (flags N Z V C, registers 0 to 31; qemu status {status})\n"
+            fail(program, f"entry {number} differs (flags N Z V C, Y, registers 0 to 31; qemu status {status})\n"
                           f"library: {show_entry(ours)}\nqemu:    {show_entry(theirs)}")
     if (run.end, run.number, logged[-1].address, status) != (TRAP_TAKEN, EXIT_TRAP, program.exit_address, 0):
         fail(program, f"no exit trap: library end {run.end} with {run.number}, qemu status {status}")
@@ -193,6 +193,8 @@ class Tally:
             self.forms[kind, word >> 13 & 1] += 1
         if kind == "jmpl" and word >> 25 & 31 == word >> 14 & 31:
             self.counts["jmpl over rs1"] += 1
+        if kind in programs.PRODUCTS and word >> 25 & 31 == 0:
+            self.counts["products to 0"] += 1
         self.counts[kind] += 1
 
     def count_annulled(self, kind, slot_word):
@@ -215,6 +217,8 @@ class Tally:
               f"jmpl {counts['jmpl']} (with rd = rs1 {counts['jmpl over rs1']}), sethi {counts['sethi']}, "
               f"arithmetic {total([*programs.ARITHMETIC, *programs.SHIFTS])}, "
               f"ticc untaken {counts['ticc'] - counts['programs']}")
+        print(f"products {total(programs.PRODUCTS)} (to register 0 {counts['products to 0']}), rdy {counts['rdy']}, "
+              f"wry {counts['wry']}")
         print(f"operations with a register and with a constant {len(self.forms)} of {2 * len(OPERATIONS)}")
 
     def show_branches(self):
@@ -232,11 +236,11 @@ class Tally:
 
 def recorded(program, entries):
     """The program without its prologue, and QEMU's entries: six numbers as below, the state before the first
-    entry (38 numbers as in pijorrel.h), the image, the data, the entries (34 numbers each), the data after them."""
+    entry (39 numbers as in pijorrel.h), the image, the data, the entries (35 numbers each), the data after them."""
     first, image = entries[0], program.image[4 * PROLOGUE:]
     numbers = [0x5452414C, len(image), first.address, program.data_base, len(program.data), len(entries)]
-    numbers += [*first.registers, first.flags, first.address, first.address + 4, 0, 0, 0]
-    trail = [number for entry in entries for number in (entry.address, *entry.registers, entry.flags)]
+    numbers += [*first.registers, first.flags, first.address, first.address + 4, 0, 0, 0, first.y]
+    trail = [number for entry in entries for number in (entry.address, *entry.registers, entry.flags, entry.y)]
     after = program.data_shown(entries[-1].registers)
     return b"".join((struct.pack(f">{len(numbers)}I", *numbers), image, program.data,
                      struct.pack(f">{len(trail)}I", *trail), after))

@@ -1,6 +1,6 @@
 """Random programs of the words that the old core knows: those with an unused bit set are none to it.
 
-A program is a prologue that gives every register a value and sets the flags, a body of random words, and a
+A program is a prologue that gives every register and Y a value and sets the flags, a body of random words, and a
 closing that loads each word of the data into a register and leaves by the exit trap. However a run winds through
 the body, each access fits and each target lies in the body, so that it loops, takes a trap or reaches the exit.
 """
@@ -9,8 +9,10 @@ from dataclasses import dataclass
 ARITHMETIC = {"add": 0x00, "and": 0x01, "or": 0x02, "xor": 0x03, "sub": 0x04, "andn": 0x05, "orn": 0x06,
               "xnor": 0x07, "addx": 0x08, "subx": 0x0C}
 ARITHMETIC.update({name + "cc": op3 + 0x10 for name, op3 in ARITHMETIC.items()})
+PRODUCTS = {"umul": 0x0A, "smul": 0x0B, "umulcc": 0x1A, "smulcc": 0x1B}
 SHIFTS = {"sll": 0x25, "srl": 0x26, "sra": 0x27}
-JMPL, TICC = 0x38, 0x3A
+RDY, WRY, JMPL, TICC = 0x28, 0x30, 0x38, 0x3A
+OTHERS = {"rdy": RDY, "wry": WRY, "jmpl": JMPL, "ticc": TICC}
 MEMORY = {"ld": 0x00, "ldub": 0x01, "lduh": 0x02, "ldsb": 0x09, "ldsh": 0x0A, "st": 0x04, "stb": 0x05, "sth": 0x06}
 STORES = ("st", "stb", "sth")
 WIDTH = {"ld": 4, "ldub": 1, "lduh": 2, "ldsb": 1, "ldsh": 2, "st": 4, "stb": 1, "sth": 2}
@@ -33,7 +35,7 @@ FLAG_SETTERS = (("addcc", 1, 1), ("subcc", 1, 0xFFFFFFFF), ("subcc", 0x80000000,
                 ("subcc", 0x7FFFFFFF, 0xFFFFFFFF))
 STACK, LINK, NOP = 14, 15, 0x01000000
 EXIT_TRAP = 0x10
-PROLOGUE = 2 * 31 + 2
+PROLOGUE = 2 * 31 + 3
 CLOSING_REGISTER = 16
 RESERVED = 14  # registers that hold addresses, and that no word of the body but a jmpl writes
 
@@ -77,7 +79,7 @@ def kind_of(word):
     if op == 0:
         name = {NEVER: "bn", ALWAYS: "ba"}.get(condition_of(word), "b")
         return name + ",a" * (word >> 29 & 1)
-    names = MEMORY if op == 3 else {**ARITHMETIC, **SHIFTS, "jmpl": JMPL, "ticc": TICC}
+    names = MEMORY if op == 3 else {**ARITHMETIC, **PRODUCTS, **SHIFTS, **OTHERS}
     return next(name for name, number in names.items() if number == op3)
 
 
@@ -133,6 +135,7 @@ class Maker:
         random.shuffle(registers)
         self.reserved, self.free = registers[:RESERVED], [0] + registers[RESERVED:]
         self.values = {r: self.value() for r in range(1, 32)}
+        self.set_y = self.wry()
         self.flag_setter = self.prepare_flags()
         self.point_at_data()
         self.values[LINK] = self.target(self.start) - 8
@@ -153,7 +156,7 @@ class Maker:
             value = self.values[rd] & 0xFFFFFFFF
             words += [sethi(rd, value), format3(2, ARITHMETIC["or"], rd, rd, constant(value & 0x3FF))]
         set_carry = format3(2, ARITHMETIC["subcc"], 0, 0, constant(1))
-        return words + [set_carry, self.flag_setter]
+        return words + [self.set_y, set_carry, self.flag_setter]
 
     def closing(self):
         """Begins with a nop, since a branch in a delay slot may run or annul the first word alone."""
@@ -194,14 +197,23 @@ class Maker:
     def body_word(self, here, control):
         if self.random.random() < control:
             return self.control(self.random.choices(CONTROL, CONTROL_WEIGHTS)[0], here)
-        makers = (self.arithmetic, self.shift, self.sethi, self.access, self.trap)
-        return self.random.choices(makers, (50, 10, 5, 30, 5))[0]()
+        makers = (self.arithmetic, self.product, self.rdy, self.wry, self.shift, self.sethi, self.access, self.trap)
+        return self.random.choices(makers, (45, 12, 4, 4, 9, 4, 27, 5))[0]()
 
     def arithmetic(self):
         """Sums and differences that set flags come more often: they alone set V and C."""
         names = list(ARITHMETIC) + 3 * ["addcc", "addxcc", "subcc", "subxcc"]
         op3 = ARITHMETIC[self.random.choice(names)]
         return format3(2, op3, self.destination(), *self.sources())
+
+    def product(self):
+        return format3(2, self.random.choice(list(PRODUCTS.values())), self.destination(), *self.sources())
+
+    def rdy(self):
+        return format3(2, RDY, self.random.choice(self.free), 0, 0)
+
+    def wry(self):
+        return format3(2, WRY, 0, *self.sources())
 
     def shift(self):
         op3 = self.random.choice(list(SHIFTS.values()))

@@ -1,5 +1,6 @@
 /* How much stack each call takes, on x86-64: a thread with a painted stack makes the call, and the paint that is left is
- * counted. The header states the bounds that are asked here. */
+ * counted. The header states the bounds that are asked here. To be linked with -z now, so that memset is bound before a
+ * thread begins: else the dynamic linker does it at the first call, on the stack that is measured. */
 #define _POSIX_C_SOURCE 200809L
 #include <pthread.h>
 #include <stdio.h>
@@ -67,13 +68,17 @@ static size_t stack_of(void *(*work)(void *), void *argument)
     return sizeof stack - left;
 }
 
-/* Conditional branches throughout, so that the walk has thousands of places to find. */
+/* Conditional branches throughout, so that the walk has thousands of places to find; in every eighth word a product,
+ * umulcc %g1, %g1, %g2. */
 static void make_image(void)
 {
+    static const uint8_t product[4] = { 0x84, 0xD0, 0x40, 0x01 };
     for (size_t i = 0; i < sizeof image; i += 4) {
         image[i] = 0x12;
         image[i + 1] = 0x80;
         image[i + 3] = 2;
+        if (i % 32 == 28)
+            memcpy(image + i, product, sizeof product);
     }
 }
 

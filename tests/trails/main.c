@@ -1,7 +1,7 @@
 /* Whole runs of both cores: over each image of a file of translator cases that is accepted, and its translation, from
- * every plain place with seeded registers, flags and data, cut at several numbers of entries. With one record of each
- * translation spoiled, it shows that the comparison can fail. Leaves with 0 if all trails are as demand 3 says, 1 if
- * some are not, 2 if nothing can be said. */
+ * every plain place with seeded registers, Y, flags and data, cut at several numbers of entries. With one record of
+ * each translation spoiled, it shows that the comparison can fail. Leaves with 0 if all trails are as demand 3 says, 1
+ * if some are not, 2 if nothing can be said. */
 #include <inttypes.h>
 #include <stdio.h>
 #include <stdlib.h>
@@ -81,6 +81,7 @@ static void any_start(const struct program *program, uint32_t address, struct st
     for (int r = 0; r < 32; r++)
         put_word(start->machine + 4 * r, any_register(program, start->data_base));
     put_word(start->machine + 128, draw());
+    start->y = any_register(program, start->data_base);
     fill(start->data, DATA_ROOM);
 }
 

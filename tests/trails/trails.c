@@ -10,6 +10,7 @@ static void add_entry(struct trail *trail, const struct walk *walk)
 {
     struct entry *entry = &trail->entries[trail->count++];
     entry->address = walk->address;
+    entry->y = walk->y;
     memcpy(entry->machine, walk->state, REGISTERS_AND_FLAGS);
     memcpy(entry->data, walk->data, DATA_ROOM);
     trail->landed = walk->landed;
@@ -32,7 +33,7 @@ void trail_of(begin_function *begin, const struct program *program, const struct
 {
     uint8_t data[DATA_ROOM];
     struct walk walk = { .program = program, .data_base = start->data_base, .data = data,
-                         .data_length = start->data_length };
+                         .data_length = start->data_length, .y = start->y };
     memcpy(walk.state, start->machine, REGISTERS_AND_FLAGS);
     memcpy(data, start->data, DATA_ROOM);
     begin(&walk, start->address);
@@ -41,7 +42,8 @@ void trail_of(begin_function *begin, const struct program *program, const struct
 
 static bool same_entry(const struct entry *one, const struct entry *other)
 {
-    return one->address == other->address && memcmp(one->machine, other->machine, REGISTERS_AND_FLAGS) == 0
+    return one->address == other->address && one->y == other->y
+        && memcmp(one->machine, other->machine, REGISTERS_AND_FLAGS) == 0
         && memcmp(one->data, other->data, DATA_ROOM) == 0;
 }
 
@@ -58,6 +60,7 @@ static bool begins_at(const struct trail *trail, const struct start *start)
 {
     struct entry first;
     first.address = start->address;
+    first.y = start->y;
     memcpy(first.machine, start->machine, REGISTERS_AND_FLAGS);
     memcpy(first.data, start->data, DATA_ROOM);
     put_word(first.machine, 0);

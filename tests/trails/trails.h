@@ -8,13 +8,13 @@ enum { DATA_ROOM = 64, LONGEST_CUT = 40 };
 
 /* What both cores begin with; of the data only the first bytes, so many as the length says, are lent. */
 struct start {
-    uint32_t address, data_base;
+    uint32_t address, data_base, y;
     size_t data_length;
     uint8_t machine[REGISTERS_AND_FLAGS], data[DATA_ROOM];
 };
 
 struct entry {
-    uint32_t address;
+    uint32_t address, y;
     uint8_t machine[REGISTERS_AND_FLAGS], data[DATA_ROOM];
 };
 

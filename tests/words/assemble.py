@@ -20,14 +20,15 @@ HERE = Path(__file__).resolve().parent
 TOP = HERE.parent.parent
 OBJDUMP, AS, OBJCOPY = (f"sparc64-linux-gnu-{name}" for name in ("objdump", "as", "objcopy"))
 
-CALL, BICC, SETHI, JMPL, TICC = 64, 2, 4, 184, 186
+CALL, BICC, SETHI, RDY, WRY, JMPL, TICC = 64, 2, 4, 168, 176, 184, 186
 ARITHMETIC = {"add": 0, "and": 1, "or": 2, "xor": 3, "sub": 4, "andn": 5, "orn": 6, "xnor": 7, "addx": 8, "subx": 12}
+ARITHMETIC.update({"umul": 10, "smul": 11})
 ARITHMETIC.update({name + "cc": op3 + 16 for name, op3 in ARITHMETIC.items()})
 SHIFTS = {165: "sll", 166: "srl", 167: "sra"}
 LOADS = {192: "ld", 193: "ldub", 194: "lduh", 201: "ldsb", 202: "ldsh"}
 STORES = {196: "st", 197: "stb", 198: "sth"}
 COMPUTING = {**{128 + op3: name for name, op3 in ARITHMETIC.items()}, **SHIFTS}
-FORMS = [CALL, BICC, SETHI, JMPL, TICC, *COMPUTING, *LOADS, *STORES]
+FORMS = [CALL, BICC, SETHI, RDY, WRY, JMPL, TICC, *COMPUTING, *LOADS, *STORES]
 CONDITIONS = ("n", "e", "le", "l", "leu", "cs", "neg", "vs", "a", "ne", "g", "ge", "gu", "cc", "pos", "vc")
 
 # Address, bytes, mnemonic, operands, and the disassembler's comment on what a register holds after a sethi.
@@ -54,12 +55,15 @@ def instruction(source, form, turn):
         return form, turn % 2, number(source, 4), 0, 0, number(source, 22, signed=True)
     if form == SETHI:
         return form, 0, number(source, 5), 0, 0, number(source, 22)
+    if form == RDY:
+        return form, 0, number(source, 5), 0, 0, 0
     constant = turn % 2
     if not constant or form in SHIFTS:
         second = number(source, 5)
     else:
         second = number(source, 7) if form == TICC else number(source, 13, signed=True)
-    return form, 0, number(source, 4 if form == TICC else 5), number(source, 5), constant, second
+    rd = 0 if form == WRY else number(source, 4 if form == TICC else 5)
+    return form, 0, rd, number(source, 5), constant, second
 
 
 def text_of(form, annul, rd, rs1, constant, second):
@@ -70,7 +74,11 @@ def text_of(form, annul, rd, rs1, constant, second):
         return f"b{CONDITIONS[rd]}{',a' * annul} . + {4 * second}"
     if form == SETHI:
         return f"sethi %hi({second << 10}), %r{rd}"
+    if form == RDY:
+        return f"rd %y, %r{rd}"
     operand = second if constant else f"%r{second}"
+    if form == WRY:
+        return f"wr %r{rs1}, {operand}, %y"
     if form in COMPUTING:
         return f"{COMPUTING[form]} %r{rs1}, {operand}, %r{rd}"
     address = f"%r{rs1} + {operand}"

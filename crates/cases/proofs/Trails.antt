@@ -21,7 +21,7 @@ pub pass-found : (image entry state area : List ℕ) (base db : ℕ) {annul : �
 unfolding passing shown
 pass-found image entry state area base db {annul = annul} h i j k = rw (k, j, i, bit-of-not (eqb annul 0), h)
 
-module _ (image entries entry state area : List ℕ) (base db k count : ℕ) (there : entry ≡ partOf entries (k * 136) 136) (more : k < count) where
+module _ (image entries entry state area : List ℕ) (base db k count : ℕ) (there : entry ≡ partOf entries (k * 140) 140) (more : k < count) where
   -- one entry of those that are left
   follow-one : {p : Passed} → p ≡ passing image base db entry state area → followed image base db entries (count - k) k state area
       ≡ pick (p .agrees) (followed image base db entries (count - (k + 1)) (k + 1) (p .state) (p .area)) (trailed k (p .state) (p .area))

@@ -6,6 +6,7 @@ use lib.Dec.{eqb, leb}
 use lib.ListN.{length, take, drop, replicate}
 use Rattle.numbers.specs.Choice.{pick}
 use Rattle.numbers.specs.Number.{numberAt}
+use Rattle.model.specs.StateBytes.{oldSize}
 use Rattle.cases.specs.declared.file.Found.{Found}
 use Rattle.cases.specs.declared.file.Parts.{Parts}
 
@@ -51,15 +52,15 @@ pub record Checked : Type 0 where
 abbrev pub checked : Found → List ℕ → Checked
 checked verdict area = record { verdict = verdict; area = area }
 
--- a case of the old core, or a trail: six numbers, a state of 152 bytes, an image, data, so many bytes of answers, data
+-- a case of the old core, or a trail: six numbers, a state, an image, data, so many bytes of answers, data
 unfoldable pub oldParts : List ℕ → ℕ → ℕ → Parts
 oldParts bytes at answers =
     let extent = numberIn bytes (at + 4) in
     let size = numberIn bytes (at + 16) in
-    let before = at + 176 + paddedTo extent in
+    let before = at + 24 + oldSize + paddedTo extent in
     let known = before + paddedTo size in
     record {
-      image = at + 176;
+      image = at + 24 + oldSize;
       extent = extent;
       before = before;
       size = size;

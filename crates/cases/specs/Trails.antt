@@ -5,13 +5,14 @@ use mathlib.Core.List.{List}
 use lib.Dec.{eqb}
 use lib.ListN.{replicate}
 use Rattle.numbers.specs.Choice.{pick}
-use Rattle.model.specs.StateBytes.{After, oldRuns}
+use Rattle.model.specs.StateBytes.{oldBehind, oldSize, After, oldRuns}
 use Rattle.cases.specs.Files.{numberIn, partOf, copied, sameBytes, found, Checked, checked, oldParts}
 
--- whether a state that has not ended is the one that an entry recorded: its address, then its registers and flags
+-- whether a state that has not ended is the one that an entry recorded: its address, then its registers and flags, and Y
 unfoldable pub standsAt : List ℕ → List ℕ → Bool
 standsAt state entry =
-    eqb (numberIn state 144) 0 && eqb (numberIn state 132) (numberIn entry 0) && sameBytes (partOf state 0 132) (partOf entry 4 132)
+    eqb (numberIn state 144) 0 && eqb (numberIn state 132) (numberIn entry 0) && eqb (numberIn state oldBehind) (numberIn entry 136)
+    && sameBytes (partOf state 0 132) (partOf entry 4 132)
 
 -- whether an entry agrees, and what the state and the area hold once its word is passed
 pub record Passed : Type 0 where
@@ -47,7 +48,7 @@ module _ (image : List ℕ) (base db : ℕ) where
   unfoldable pub followed : List ℕ → ℕ → ℕ → List ℕ → List ℕ → Trailed
   followed entries zero k state area = trailed k state area
   followed entries (suc left) k state area =
-      let a = passing (partOf entries (k * 136) 136) state area in
+      let a = passing (partOf entries (k * 140) 140) state area in
       let more = followed entries left (suc k) (a .state) (a .area) in
       pick (a .agrees) more (trailed k (a .state) (a .area))
 
@@ -56,12 +57,12 @@ unfoldable pub trailVerdict : ℕ → ℕ → ℕ → List ℕ → Trailed → C
 trailVerdict next tag count after t =
     checked (found next (t .entries) (eqb tag 0x5452414C && eqb (t .entries) count && sameBytes (t .area) after)) (t .area)
 
--- the bases are numbers 2 and 3, the count of entries, of 136 bytes each, is number 5
+-- the bases are numbers 2 and 3, the count of entries, of 140 bytes each, is number 5
 unfoldable pub trailFound : List ℕ → ℕ → List ℕ → Checked
 trailFound bytes at area =
     let count = numberIn bytes (at + 20) in
-    let p = oldParts bytes at (count * 136) in
+    let p = oldParts bytes at (count * 140) in
     trailVerdict (p .next) (numberIn bytes at) count (partOf bytes (p .after) (p .size))
     (followed (partOf bytes (p .image) (p .extent)) (numberIn bytes (at + 8)) (numberIn bytes (at + 12))
-    (partOf bytes (p .known) (count * 136)) count 0 (copied (replicate 152 0) (partOf bytes (at + 24) 152))
+    (partOf bytes (p .known) (count * 140)) count 0 (copied (replicate oldSize 0) (partOf bytes (at + 24) oldSize))
     (copied area (partOf bytes (p .before) (p .size))))

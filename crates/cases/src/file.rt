@@ -3,6 +3,7 @@ ghost use mathlib.Core.Path.{_≡_};
 ghost use Prim.Native.Nat.{_+_, _≤_, _<_, _^_, min};
 ghost use lib.ListN.{length, getD};
 ghost use Rattle.cases.specs.Files.{numberIn, partOf, paddedTo, copied, holding, oneEntry, oldParts};
+use model::OLD_STATE;
 
 // What is found of a case: where the next one starts, how many of its entries agree before one that does not, and whether all agrees,
 // with what is no entry, as the data after the last.
@@ -114,14 +115,14 @@ pub fn holds(area: &[u8], known: &[u8], past: u8) -> bool
     known.len() <= area.len()
 }
 
-// The parts of the case at a position: six numbers, a state of 152 bytes, an image, data, so many bytes of answers, data.
+// The parts of the case at a position: six numbers, a state, an image, data, so many bytes of answers, data.
 pub fn locate(bytes: &[u8], at: usize, answers: usize) -> Parts
     requires { ⌜ (at ≤ length (now bytes) + 4) × (answers < 2 ^ 40) ⌝ }
     ensures { λ r. ⌜ r ≡ oldParts (now (bytes .entry)) at answers ⌝ }
 {
     let extent = number(bytes, at + 4);
     let size = number(bytes, at + 16);
-    let image = at + 176;
+    let image = at + 24 + OLD_STATE;
     let before = image + padded(extent);
     let known = before + padded(size);
     let after = known + answers;

@@ -12,12 +12,13 @@ use crate::file::number;
 use crate::file::one;
 use crate::file::part;
 use machine::Ended;
+use model::OLD_STATE;
 
 // What a case starts with.
 const TAG: u32 = 0x4F4C4443;
 
 // Whether a run ended in the known state.
-fn ended_in(known: &[u8], state: &[u8; 152], r: Ended) -> bool
+fn ended_in(known: &[u8], state: &[u8; OLD_STATE], r: Ended) -> bool
     ensures { λ s. ⌜ s ≡ endedIn (now (known .entry)) 144 (ending (r .end) (r .number)) (now (state .entry)) ⌝ }
 {
     check::same(state, known) & (r.end == number(known, 144)) & (r.number == number(known, 148))
@@ -28,9 +29,9 @@ pub fn check(bytes: &[u8], at: usize, area: &mut [u8]) -> Found
     requires { ⌜ at ≤ length (now bytes) + 4 ⌝ }
     ensures { λ r. ⌜ checked r (now (area .exit)) ≡ oldFound (now (bytes .entry)) at (now (area .entry)) ⌝ }
 {
-    let p = locate(bytes, at, 152);
-    let mut state = [0u8; 152];
-    copy(&mut state, part(bytes, at + 24, 152));
+    let p = locate(bytes, at, OLD_STATE);
+    let mut state = [0u8; OLD_STATE];
+    copy(&mut state, part(bytes, at + 24, OLD_STATE));
     copy(area, part(bytes, p.before, p.size));
     let r = pijorrel_old::pijorrel_old_run(
         part(bytes, p.image, p.extent),
@@ -41,7 +42,7 @@ pub fn check(bytes: &[u8], at: usize, area: &mut [u8]) -> Found
         (number(bytes, at + 20) % 65536) as u16,
     );
     let agrees = (number(bytes, at) == TAG)
-        & ended_in(part(bytes, p.known, 152), &state, r)
+        & ended_in(part(bytes, p.known, OLD_STATE), &state, r)
         & check::same(area, part(bytes, p.after, p.size));
     one(p.next, agrees)
 }

@@ -12,12 +12,13 @@ use crate::file::one;
 use crate::file::padded;
 use crate::file::part;
 use machine::Ended;
+use model::NEW_STATE;
 
 // What a case starts with.
 const TAG: u32 = 0x4E455743;
 
 // Whether a run ended in the known state.
-fn ended_in(known: &[u8], state: &[u8; 148], r: Ended) -> bool
+fn ended_in(known: &[u8], state: &[u8; NEW_STATE], r: Ended) -> bool
     ensures { λ s. ⌜ s ≡ endedIn (now (known .entry)) 140 (ending (r .end) (r .number)) (now (state .entry)) ⌝ }
 {
     check::same(state, known) & (r.end == number(known, 140)) & (r.number == number(known, 144))
@@ -36,7 +37,7 @@ struct Parts {
     next: usize,
 }
 
-// The parts of the case at a position: eight numbers, a state of 148 bytes, a place table, records, data, a state, data.
+// The parts of the case at a position: eight numbers, a state, a place table, records, data, a state, data.
 fn locate(bytes: &[u8], at: usize) -> Parts
     requires { ⌜ at ≤ length (now bytes) + 4 ⌝ }
     ensures { λ r. ⌜ r ≡ newParts (now (bytes .entry)) at ⌝ }
@@ -44,11 +45,11 @@ fn locate(bytes: &[u8], at: usize) -> Parts
     let rows = number(bytes, at + 4);
     let extent = number(bytes, at + 8);
     let size = number(bytes, at + 24);
-    let places = at + 180;
+    let places = at + 32 + NEW_STATE;
     let records = places + padded(rows);
     let before = records + padded(extent);
     let known = before + padded(size);
-    let after = known + 148;
+    let after = known + NEW_STATE;
     Parts {
         places,
         rows: rows as usize,
@@ -72,8 +73,8 @@ pub fn check(bytes: &[u8], at: usize, area: &mut [u8]) -> Found
     let db = number(bytes, at + 20);
     let count = (number(bytes, at + 28) % 65536) as u16;
     let p = locate(bytes, at);
-    let mut state = [0u8; 148];
-    copy(&mut state, part(bytes, at + 32, 148));
+    let mut state = [0u8; NEW_STATE];
+    copy(&mut state, part(bytes, at + 32, NEW_STATE));
     copy(area, part(bytes, p.before, p.size));
     let places = part(bytes, p.places, p.rows);
     let records = part(bytes, p.records, p.extent);
@@ -88,7 +89,7 @@ pub fn check(bytes: &[u8], at: usize, area: &mut [u8]) -> Found
         count,
     );
     let agrees = (number(bytes, at) == TAG)
-        & ended_in(part(bytes, p.known, 148), &state, r)
+        & ended_in(part(bytes, p.known, NEW_STATE), &state, r)
         & check::same(area, part(bytes, p.after, p.size));
     one(p.next, agrees)
 }

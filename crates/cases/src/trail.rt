@@ -9,12 +9,14 @@ use crate::file::copy;
 use crate::file::locate;
 use crate::file::number;
 use crate::file::part;
+use model::OLD_BEHIND;
+use model::OLD_STATE;
 
 // What a program starts with.
 const TAG: u32 = 0x5452414C;
 
-// The bytes of an entry: address, registers and flags.
-const ENTRY: usize = 136;
+// The bytes of an entry: address, registers, flags and Y.
+const ENTRY: usize = 140;
 
 // Whether a state that has not ended is the one that an entry recorded.
 fn stands_at(state: &[u8], entry: &[u8]) -> bool
@@ -22,6 +24,7 @@ fn stands_at(state: &[u8], entry: &[u8]) -> bool
 {
     (number(state, 144) == 0)
         & (number(state, 132) == number(entry, 0))
+        & (number(state, OLD_BEHIND) == number(entry, 136))
         & check::same(part(state, 0, 132), part(entry, 4, 132))
 }
 
@@ -30,7 +33,7 @@ fn pass(
     image: &[u8],
     base: u32,
     db: u32,
-    state: &mut [u8; 152],
+    state: &mut [u8; OLD_STATE],
     area: &mut [u8],
     entry: &[u8],
 ) -> bool
@@ -48,7 +51,7 @@ fn follow(
     image: &[u8],
     base: u32,
     db: u32,
-    state: &mut [u8; 152],
+    state: &mut [u8; OLD_STATE],
     area: &mut [u8],
     entries: &[u8],
     count: u32,
@@ -74,8 +77,8 @@ pub fn check(bytes: &[u8], at: usize, area: &mut [u8]) -> Found
     let count = number(bytes, at + 20);
     let answers = count as usize * ENTRY;
     let p = locate(bytes, at, answers);
-    let mut state = [0u8; 152];
-    copy(&mut state, part(bytes, at + 24, 152));
+    let mut state = [0u8; OLD_STATE];
+    copy(&mut state, part(bytes, at + 24, OLD_STATE));
     copy(area, part(bytes, p.before, p.size));
     let entries = follow(
         part(bytes, p.image, p.extent),

@@ -1,6 +1,6 @@
 -- 01, One listing in full: its text, byte for byte, computed from the definitions.
 use Rattle.numbers.specs.Number.{plus, minus, signed, numberAt, bytesOf, numbersOf, upTo}
-use Rattle.words.specs.Reader.{bits, bitSet, operandOf, format0Of, format2Of, format3Of, setFrom, registerStrays, unusedSet, strictly, byFormat, instructionOf}
+use Rattle.words.specs.Reader.{bits, bitSet, operandOf, format0Of, format2Of, format3Of, setFrom, registerStrays, rdyStrays, wryStrays, unusedSet, strictly, byFormat, instructionOf}
 use Rattle.model.specs.OldCore.{inImage, wordIn, transferOf, target}
 use Rattle.model.specs.Places.{kindOf, nextOf, placeAt, samePlace, member, whichOf, biccNames, names, namesAt, followers, mayBeHeldAt, mayBeHeld, idleBicc, allowed, plains}
 use Rattle.model.specs.Walk.{grow, grown, tested, handle, walk, placesOf}
@@ -29,5 +29,5 @@ text =
     ∷ 49 ∷ 32 ∷ 50 ∷ 52 ∷ 52 ∷ 54 ∷ 51 ∷ 51 ∷ 54 ∷ 48 ∷ 48 ∷ 48 ∷ 32 ∷ 48 ∷ 10 ∷ []
 
 pub listing-of-01 : listingOf image ≡ text
-unfolding listingOf answerText tables placeLines recordLines lineOf decimal decimalBy separator refusalText translation fromWalk acceptance refusal filled placeRoom badLength badCount badEntry firstBad numbersIn placesOf walk handle tested grown grow plains allowed mayBeHeldAt mayBeHeld idleBicc followers namesAt names biccNames whichOf member samePlace placeAt nextOf kindOf rowsOf recordsOf rowsFrom recordsFrom first put numbered past group groupAt heldGroupAt groupOf heldGroupOf biccGroup tableNumbers recordsNumbers recordNumbers numbersOf upTo wordIn inImage transferOf target instructionOf byFormat format0Of format2Of format3Of setFrom registerStrays unusedSet strictly operandOf bits bitSet signed plus minus numberAt bytesOf
+unfolding listingOf answerText tables placeLines recordLines lineOf decimal decimalBy separator refusalText translation fromWalk acceptance refusal filled placeRoom badLength badCount badEntry firstBad numbersIn placesOf walk handle tested grown grow plains allowed mayBeHeldAt mayBeHeld idleBicc followers namesAt names biccNames whichOf member samePlace placeAt nextOf kindOf rowsOf recordsOf rowsFrom recordsFrom first put numbered past group groupAt heldGroupAt groupOf heldGroupOf biccGroup tableNumbers recordsNumbers recordNumbers numbersOf upTo wordIn inImage transferOf target instructionOf byFormat format0Of format2Of format3Of setFrom registerStrays rdyStrays wryStrays unusedSet strictly operandOf bits bitSet signed plus minus numberAt bytesOf
 listing-of-01 = refl

@@ -1,10 +1,11 @@
--- What every machine of a run is: 32 registers of 32 bits, register 0 being 0, four flags, n bytes of data. A word leaves it so.
+-- What every machine of a run is: a file of registers and Y, of 32 bits each, register 0 being 0, four flags, n bytes of data. A word leaves it so.
 use Prim.Native.Nat.{ℕ, zero, suc, _+_, _*_, _/_, _%_, _^_, _≤_, _<_}
 use native.Mathlib.Omega.{arith}
 use native.Mathlib.Nat.{div-le-self}
 use mathlib.Core.Path.{_≡_, refl, _∙_}
 use mathlib.Core.Bool.{Bool, true, false}
 use mathlib.Core.List.{List}
+use mathlib.Core.Option.{Option, none, some}
 use lib.Bits.{and-lt, or-lt, xor-lt}
 use lib.Dec.{eqb, leb, ltb}
 use lib.ListN.{length, getD, set, length-set}
@@ -22,20 +23,21 @@ use Rattle.words.specs.declared.Width.the-variants.{Byte, Half, Word}
 use Rattle.words.specs.declared.Operand.{Operand}
 use Rattle.words.specs.declared.Operand.the-variants.{Register, Constant}
 use Rattle.words.specs.declared.Operation.{Operation}
-use Rattle.words.specs.declared.Operation.the-variants.{Add, And, Or, Xor, Sub, Andn, Orn, Xnor, Addx, Subx}
+use Rattle.words.specs.declared.Operation.the-variants.{Add, And, Or, Xor, Sub, Andn, Orn, Xnor, Addx, Subx, Umul, Smul}
 use Rattle.words.specs.declared.ShiftOperation.{ShiftOperation}
 use Rattle.words.specs.declared.ShiftOperation.the-variants.{Sll, Srl, Sra}
 use Rattle.words.specs.declared.Instruction.{Instruction}
-use Rattle.words.specs.declared.Instruction.the-variants.{Illegal, Call, Sethi, Bicc, Arithmetic, Jmpl, Ticc, Load, Store, Shift}
+use Rattle.words.specs.declared.Instruction.the-variants.{Illegal, Call, Sethi, Bicc, Arithmetic, Jmpl, Ticc, Load, Store, Shift, Rdy, Wry}
 use Rattle.machine.specs.Ends.{Ending, ending, Next, go, halt, within}
-use Rattle.machine.specs.Registers.{registerOf, putRegister, valueOf, addressOf}
-use Rattle.machine.specs.Arithmetic.{top, Outcome, outcome, sumOf, differenceOf, logicOf, flipped, shiftedLeft, shiftedRight, shiftedSigned, shiftOf, outcomeOf, carryOf, arithmeticOf}
+use Rattle.machine.specs.Registers.{fileSize, registerOf, putRegister, yOf, putY, valueOf, addressOf}
+use Rattle.machine.specs.Arithmetic.{top, Outcome, outcome, sumOf, differenceOf, logicOf, flipped, shiftedLeft, shiftedRight, shiftedSigned, exactProduct, productOf, shiftOf, outcomeOf, carryOf, putHigh, arithmeticOf}
 use Rattle.machine.specs.DataArea.{widthOf, signOf, sizeOf, valueAt, putValue, loadedAt, access, loadOf, storeOf}
 use Rattle.machine.specs.Effect.{Machine, trapOf, withRegisters, withArea, effectOf}
-use Rattle.machine.proofs.Zero.{Zero, put-zero}
+use Rattle.machine.proofs.Zero.{Zero, put-zero, y-zero}
+use Rattle.machine.proofs.Products.{modulo-lt}
 
 pub record Sound (n : ℕ) (m : Machine) : Type 0 where
-  pub thirty-two : length (m .registers) ≡ 32
+  pub whole : length (m .registers) ≡ fileSize
   pub registers : Below (2 ^ 32) (m .registers)
   pub zero : Zero (m .registers)
   pub flags : m .flags < 16
@@ -72,6 +74,8 @@ fitsIn (Ticc cond rs1 x) = fits x
 fitsIn (Load o rd rs1 x) = fits x
 fitsIn (Store w rd rs1 x) = fits x
 fitsIn (Shift o rd rs1 x) = fits x
+fitsIn (Rdy rd) = true
+fitsIn (Wry s) = fits (s .operand)
 
 operand-fits : (word : ℕ) → fits (operandOf word) ≡ true
 unfolding operandOf bits
@@ -102,13 +106,37 @@ pub put-sound : (n : ℕ) (m : Machine) (i v : ℕ) → Sound n m → v < 2 ^ 32
 unfolding putRegister
 put-sound n m i v s h =
     record {
-      thirty-two = put-length (m .registers) i v ∙ s .thirty-two;
+      whole = put-length (m .registers) i v ∙ s .whole;
       registers = below-set (2 ^ 32) (set (m .registers) (i % 32) v) 0 0 (omega arith) (below-set (2 ^ 32) (m .registers) (i % 32) v h (s .registers));
       zero = put-zero (m .registers) i v;
       flags = s .flags;
       area = s .area;
       sized = s .sized;
     }
+
+y-sound : (n : ℕ) (m : Machine) (v : ℕ) → Sound n m → v < 2 ^ 32 → Sound n (withRegisters m (putY (m .registers) v))
+unfolding putY
+y-sound n m v s h =
+    record {
+      whole = length-set (m .registers) 32 v ∙ s .whole;
+      registers = below-set (2 ^ 32) (m .registers) 32 v h (s .registers);
+      zero = y-zero (m .registers) v (s .zero);
+      flags = s .flags;
+      area = s .area;
+      sized = s .sized;
+    }
+
+y-lt : (n : ℕ) (m : Machine) → Sound n m → yOf (m .registers) < 2 ^ 32
+unfolding yOf
+y-lt n m s = below-get (2 ^ 32) (m .registers) 32 (omega arith) (s .registers)
+
+abbrev HighLt : Option ℕ → Type 0
+HighLt none = Unit {0}
+HighLt (some h) = h < 2 ^ 32
+
+high-sound : (n : ℕ) (m : Machine) (h : Option ℕ) → Sound n m → HighLt h → Sound n (withRegisters m (putHigh h (m .registers)))
+high-sound n m none s l = s
+high-sound n m (some h) s l = y-sound n m h s l
 
 pub register-lt : (n : ℕ) (m : Machine) (i : ℕ) → Sound n m → registerOf (m .registers) i < 2 ^ 32
 unfolding registerOf
@@ -145,12 +173,12 @@ unfolding shiftedSigned
 signed-lt a b h =
     either (λ (v : ℕ). v < 2 ^ 32) (top a) (flipped (shiftedRight (flipped a) b)) (shiftedRight a b) (flipped-lt (shiftedRight (flipped a) b)) (right-lt a b h)
 
--- a value of 32 bits, and four flags
+-- a value of 32 bits, four flags, and 32 bits for Y
 abbrev Small : Outcome → Type 0
-Small k = (k .value < 2 ^ 32) × (k .flags < 16)
+Small k = (k .value < 2 ^ 32) × (k .flags < 16) × HighLt (k .high)
 
 small : (r : ℕ) (v c : Bool) → r < 2 ^ 32 → Small (outcome r v c)
-small r v c h = (h, four-bits (top r) (eqb r 0) v c)
+small r v c h = (h, four-bits (top r) (eqb r 0) v c, tt)
 
 small-logic : (r : ℕ) → r < 2 ^ 32 → Small (logicOf r)
 unfolding logicOf
@@ -164,6 +192,10 @@ small-difference : (a b k : ℕ) → Small (differenceOf a b k)
 unfolding differenceOf
 small-difference a b k = small (minus (minus a b) k) _ _ (minus-lt (minus a b) k)
 
+small-product : (sign : Bool) (a b : ℕ) → Small (productOf sign a b)
+unfolding productOf
+small-product sign a b = let l = modulo-lt (exactProduct sign a b) in (omega arith, four-bits _ _ false false, omega arith)
+
 small-outcome : (o : Operation) (carry a b : ℕ) → a < 2 ^ 32 → b < 2 ^ 32 → Small (outcomeOf o carry a b)
 unfolding outcomeOf
 small-outcome Add carry a b h i = small-sum a b 0
@@ -176,6 +208,8 @@ small-outcome Orn carry a b h i = small-logic _ (or-lt 32 a (flipped b) h (flipp
 small-outcome Xnor carry a b h i = small-logic _ (xor-lt 32 a (flipped b) h (flipped-lt b))
 small-outcome Addx carry a b h i = small-sum a b carry
 small-outcome Subx carry a b h i = small-difference a b carry
+small-outcome Umul carry a b h i = small-product false a b
+small-outcome Smul carry a b h i = small-product true a b
 
 shift-lt : (o : ShiftOperation) (a b : ℕ) → a < 2 ^ 32 → shiftOf o a b < 2 ^ 32
 unfolding shiftOf shiftedLeft
@@ -234,9 +268,9 @@ effects-sound n db (Bicc cond annul disp) m f s = s
 effects-sound n db (Arithmetic o cc rd rs1 x) m f s =
     let k = outcomeOf o (carryOf (m .flags)) (registerOf (m .registers) rs1) (valueOf (m .registers) x) in
     let b = small-outcome o (carryOf (m .flags)) (registerOf (m .registers) rs1) (valueOf (m .registers) x) (register-lt n m rs1 s) (value-lt n m x s f) in
-    let p = put-sound n m rd (k .value) s (b .0) in
+    let p = put-sound n (withRegisters m (putHigh (k .high) (m .registers))) rd (k .value) (high-sound n m (k .high) s (b .2)) (b .0) in
     record {
-      thirty-two = p .thirty-two;
+      whole = p .whole;
       registers = p .registers;
       zero = p .zero;
       flags = either (λ (f : ℕ). f < 16) cc (k .flags) (m .flags) (b .1) (s .flags);
@@ -244,6 +278,8 @@ effects-sound n db (Arithmetic o cc rd rs1 x) m f s =
       sized = s .sized;
     }
 effects-sound n db (Jmpl rd rs1 x) m f s = s
+effects-sound n db (Rdy rd) m f s = put-sound n m rd (yOf (m .registers)) s (y-lt n m s)
+effects-sound n db (Wry t) m f s = y-sound n m _ s (xor-lt 32 _ _ (register-lt n m (t .rs1) s) (value-lt n m (t .operand) s f))
 effects-sound n db (Ticc cond rs1 x) m f s = leaves-within (λ u. Sound n m) (Sound n) (λ u. m) (λ u p. p) _ (trap-leaves (Sound n m) (m .flags) (m .registers) cond rs1 x s)
 effects-sound n db (Load o rd rs1 x) m f s =
     let w = widthOf o in
@@ -259,7 +295,7 @@ effects-sound n db (Store w rd rs1 x) m f s =
     (access-leaves (λ a. Sound n (withArea m a)) w db t (m .area) (putValue w (m .area) (minus t db) (registerOf (m .registers) rd))
     (address-lt (m .registers) rs1 x)
     (record {
-      thirty-two = s .thirty-two;
+      whole = s .whole;
       registers = s .registers;
       zero = s .zero;
       flags = s .flags;

@@ -13,7 +13,7 @@ use lib.ListN.{length}
 use lib.Dec.{eqb, leb}
 use native.Mathlib.Omega.{arith}
 use mathlib.Core.Bool.{Bool, false}
-use Rattle.words.specs.declared.Instruction.the-variants.{Illegal, Call, Sethi, Bicc, Arithmetic, Jmpl, Ticc, Load, Store, Shift}
+use Rattle.words.specs.declared.Instruction.the-variants.{Illegal, Call, Sethi, Bicc, Arithmetic, Jmpl, Ticc, Load, Store, Shift, Rdy, Wry}
 use Rattle.words.specs.declared.Instruction.{Instruction}
 use Rattle.machine.specs.Ends.{live, settle, ending, go, halt, endingOf, isGoing, within, left, Ending, Next, state}
 use Rattle.machine.specs.Effect.{effectOf, Machine, trapOf, withRegisters, withArea, machine}
@@ -40,6 +40,8 @@ idle db (Ticc cond rs1 x) m k = absurd (miss transfers 6 tt k)
 idle db (Load o rd rs1 x) m k = absurd (miss transfers 7 tt k)
 idle db (Store w rd rs1 x) m k = absurd (miss transfers 8 tt k)
 idle db (Shift o rd rs1 x) m k = absurd (miss transfers 9 tt k)
+idle db (Rdy rd) m k = absurd (miss transfers 10 tt k)
+idle db (Wry s) m k = absurd (miss transfers 11 tt k)
 
 -- 01: "Alignment is tested before fit": a misaligned address ends the run with 4, whether the access fits or not
 pub misaligned-first : (w : Width) (db t : ℕ) (area made : List ℕ) → eqb (t % sizeOf w) 0 ≡ false → access w db t area made ≡ halt (ending 4 t)
@@ -80,6 +82,8 @@ effects-end db (Load o rd rs1 x) m =
 effects-end db (Store w rd rs1 x) m =
     within-ends (withArea m) _ (store-ends w db (registerOf (m .registers) rd) (addressOf (m .registers) rs1 x) (m .area))
 effects-end db (Shift o rd rs1 x) m = tt
+effects-end db (Rdy rd) m = tt
+effects-end db (Wry s) m = tt
 
 -- the parts of equal states
 same-ending : {S : Type 0} {x y : S} {d e : Ending} → state x d ≡ state y e → d ≡ e

@@ -1,5 +1,7 @@
 pub mod Ends
 pub mod FlagsExact
+pub mod Products
+pub mod ProductsExact
 pub mod Effects
 pub mod Zero
 pub mod Bounds

@@ -1,10 +1,10 @@
 -- The definitions of what words do, opened together: for proofs that compute with them.
 use Rattle.machine.specs.Ends.{within, settle}
-use Rattle.machine.specs.Registers.{registerOf, putRegister, valueOf, addressOf}
-use Rattle.machine.specs.Arithmetic.{top, sumOf, differenceOf, logicOf, outcomeOf, carryOf, arithmeticOf}
+use Rattle.machine.specs.Registers.{registerOf, putRegister, yOf, putY, valueOf, addressOf}
+use Rattle.machine.specs.Arithmetic.{top, sumOf, differenceOf, logicOf, modulo64, productOf, outcomeOf, carryOf, arithmeticOf}
 use Rattle.machine.specs.DataArea.{widthOf, signOf, sizeOf, loadOf}
 use Rattle.machine.specs.Effect.{trapOf, effectOf}
 
 unfoldable pub machine-open : Unit {0}
-unfolding top sumOf differenceOf logicOf outcomeOf carryOf arithmeticOf registerOf putRegister valueOf addressOf within settle trapOf effectOf widthOf signOf sizeOf loadOf
+unfolding top sumOf differenceOf logicOf modulo64 productOf outcomeOf carryOf arithmeticOf registerOf putRegister yOf putY valueOf addressOf within settle trapOf effectOf widthOf signOf sizeOf loadOf
 machine-open = tt

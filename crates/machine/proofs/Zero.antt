@@ -1,5 +1,5 @@
 -- Register 0 is 0 after every write.
-use Rattle.machine.specs.Registers.{putRegister}
+use Rattle.machine.specs.Registers.{putRegister, putY}
 use lib.ListN.{getD, set}
 use mathlib.Core.List.{List, [], _∷_}
 use mathlib.Core.Path.{_≡_, refl}
@@ -15,3 +15,8 @@ set-zero (r ∷ rs) = refl
 pub put-zero : (rs : List ℕ) (i v : ℕ) → Zero (putRegister rs i v)
 unfolding putRegister
 put-zero rs i v = set-zero (set rs (i % 32) v)
+
+pub y-zero : (rs : List ℕ) (v : ℕ) → Zero rs → Zero (putY rs v)
+unfolding putY
+y-zero [] v z = z
+y-zero (r ∷ rs) v z = z

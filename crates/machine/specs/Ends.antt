@@ -56,7 +56,7 @@ live s = state s (ending 0 0)
 abbrev pub left : {S : Type 0} → S → End → State S
 left s e = state s (endingOf e)
 
--- "Ends 1 to 7 change no register, flag, counter, held address or data."
+-- "Ends 1 to 7 change no register, flag, counter, held address or data." 02, N4, of Y: "no end changes it"
 unfoldable pub settle : {S : Type 0} → S → Next S → State S
 settle s (go t) = live t
 settle s (halt e) = state s e

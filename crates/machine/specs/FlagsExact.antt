@@ -4,17 +4,9 @@ use mathlib.Core.Bool.{Bool, not, _&&_}
 use mathlib.Core.Path.{_≡_}
 use lib.IntN.{ℤ, pos, negℤ, _+ℤ_, _-ℤ_}
 use lib.Signed.{ltZ, leZ}
-use Rattle.numbers.specs.Choice.{pick}
 use Rattle.words.specs.Conditions.{bitAt}
 use Rattle.words.specs.declared.Operation.the-variants.{Add, Sub, Addx, Subx}
-use Rattle.machine.specs.Arithmetic.{top, Outcome, outcomeOf}
-
--- 32 bits as an integer: unsigned, the number itself; signed, 2^32 less where bit 31 is set
-abbrev pub unsignedOf : ℕ → ℤ
-unsignedOf x = pos x
-
-abbrev pub signedOf : ℕ → ℤ
-signedOf x = pick (top x) (pos x -ℤ pos (2 ^ 32)) (pos x)
+use Rattle.machine.specs.Arithmetic.{unsignedOf, signedOf, Outcome, outcomeOf}
 
 -- from low, up to and without high
 abbrev pub between : ℤ → ℤ → ℤ → Bool

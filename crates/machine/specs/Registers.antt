@@ -1,4 +1,4 @@
--- 01, The old core: "32 registers of 32 bits".
+-- 01, The old core: "32 registers of 32 bits". 02, N4: "The state and each trail entry gain Y". They stand in one file.
 use Prim.Native.Nat.{ℕ, _%_}
 use mathlib.Core.List.{List}
 use lib.ListN.{getD, set}
@@ -6,12 +6,22 @@ use Rattle.numbers.specs.Number.{plus}
 use Rattle.words.specs.declared.Operand.{Operand}
 use Rattle.words.specs.declared.Operand.the-variants.{Register, Constant}
 
+-- how many numbers the file has: registers 0 to 31, then Y
+abbrev pub fileSize : ℕ
+fileSize = 33
+
 -- "Register 0 reads and shows as 0": it is 0 in every state that a run starts from, and every write leaves it so (`register-zero` of model)
 unfoldable pub registerOf : List ℕ → ℕ → ℕ
 registerOf rs i = getD rs (i % 32) 0
 
 unfoldable pub putRegister : List ℕ → ℕ → ℕ → List ℕ
 putRegister rs i v = set (set rs (i % 32) v) 0 0
+
+unfoldable pub yOf : List ℕ → ℕ
+yOf rs = getD rs 32 0
+
+unfoldable pub putY : List ℕ → ℕ → List ℕ
+putY rs v = set rs 32 v
 
 -- the second operand's value
 unfoldable pub valueOf : List ℕ → Operand → ℕ

@@ -1,13 +1,17 @@
-// Arithmetic, logic and shifts, with the flags that their flag forms set.
+// Arithmetic, logic, products and shifts, with the flags that their flag forms set.
 ghost use mathlib.Core.Path.{_≡_};
-ghost use Prim.Native.Nat.{_-_, _%_};
+ghost use Prim.Native.Nat.{_-_, _*_, _/_, _%_};
+ghost use mathlib.Core.Bool.{_&&_};
 ghost use lib.Dec.{eqb};
+ghost use Rattle.numbers.specs.Choice.{pick};
 ghost use Rattle.words.specs.Conditions.{nzvcOf};
 ghost use Rattle.machine.specs.Registers.{registerOf, putRegister, valueOf};
-ghost use Rattle.machine.specs.Arithmetic.{top, sumOverflow, sumCarry, differenceOverflow, differenceCarry, shiftedLeft, shiftedRight, shiftedSigned, shiftOf, carryOf, sumOf, differenceOf, logicOf, written, after, arithmeticOf};
+ghost use Rattle.machine.specs.Arithmetic.{top, sumOverflow, sumCarry, differenceOverflow, differenceCarry, shiftedLeft, shiftedRight, shiftedSigned, shiftOf, carryOf, sumOf, differenceOf, logicOf, productOf, written, after, arithmeticOf};
 use crate::Flags;
 use crate::bit;
+use crate::registers::File;
 use crate::registers::put;
+use crate::registers::put_y;
 use crate::registers::reg;
 use crate::registers::value;
 use words::Operand;
@@ -122,15 +126,7 @@ fn carry(f: Flags) -> u32
 }
 
 // add and addx: k is what comes in from C.
-fn add_word(
-    f: Flags,
-    regs: &mut [u32; 32],
-    k: u32,
-    cc: bool,
-    rd: u32,
-    rs1: u32,
-    x: Operand,
-) -> Flags
+fn add_word(f: Flags, regs: &mut File, k: u32, cc: bool, rd: u32, rs1: u32, x: Operand) -> Flags
     ensures { λ r. ⌜ after (r .nzvc) (now (regs .exit)) ≡ written (f .nzvc) (now (regs .entry)) cc rd (sumOf (registerOf (now (regs .entry)) rs1) (valueOf (now (regs .entry)) x) k) ⌝ }
 {
     let a = reg(regs, rs1);
@@ -146,7 +142,7 @@ fn add_word(
 // sub and subx.
 fn subtract_word(
     f: Flags,
-    regs: &mut [u32; 32],
+    regs: &mut File,
     k: u32,
     cc: bool,
     rd: u32,
@@ -166,7 +162,7 @@ fn subtract_word(
 }
 
 // A result that clears V and C where it sets the flags.
-fn logic_word(f: Flags, regs: &mut [u32; 32], cc: bool, rd: u32, v: u32) -> Flags
+fn logic_word(f: Flags, regs: &mut File, cc: bool, rd: u32, v: u32) -> Flags
     ensures { λ r. ⌜ after (r .nzvc) (now (regs .exit)) ≡ written (f .nzvc) (now (regs .entry)) cc rd (logicOf v) ⌝ }
 {
     put(regs, rd, v);
@@ -176,10 +172,63 @@ fn logic_word(f: Flags, regs: &mut [u32; 32], cc: bool, rd: u32, v: u32) -> Flag
     f
 }
 
+// What a factor a takes off the product's high word: read as signed with bit 31 set it counts 2^32 less, so the other factor.
+fn off(sign: bool, a: u32, b: u32) -> u32
+    ensures { λ r. ⌜ r ≡ pick (sign && top a) b 0 ⌝ }
+{
+    if sign {
+        if top_bit(a) {
+            return b;
+        }
+    }
+    0
+}
+
+fn product(a: u32, b: u32) -> u64
+    ensures { λ r. ⌜ r ≡ a * b ⌝ }
+{
+    a as u64 * b as u64
+}
+
+fn low_word(p: u64) -> u32
+    ensures { λ r. ⌜ r ≡ p % 4294967296 ⌝ }
+{
+    (p % 4294967296) as u32
+}
+
+fn high_word(p: u64) -> u32
+    ensures { λ r. ⌜ r ≡ p / 4294967296 ⌝ }
+{
+    (p >> 32) as u32
+}
+
+// umul and smul: the high 32 bits go to Y, the low to rd.
+fn multiply_word(
+    f: Flags,
+    regs: &mut File,
+    sign: bool,
+    cc: bool,
+    rd: u32,
+    rs1: u32,
+    x: Operand,
+) -> Flags
+    ensures { λ r. ⌜ after (r .nzvc) (now (regs .exit)) ≡ written (f .nzvc) (now (regs .entry)) cc rd (productOf sign (registerOf (now (regs .entry)) rs1) (valueOf (now (regs .entry)) x)) ⌝ }
+{
+    let a = reg(regs, rs1);
+    let b = value(regs, x);
+    let p = product(a, b);
+    let h = numbers::subtract(
+        numbers::subtract(high_word(p), off(sign, a, b)),
+        off(sign, b, a),
+    );
+    put_y(regs, h);
+    logic_word(f, regs, cc, rd, low_word(p))
+}
+
 // The operation is matched before a register is read, so that the compiler joins this match with the reader's.
 pub fn operate(
     f: Flags,
-    regs: &mut [u32; 32],
+    regs: &mut File,
     o: Operation,
     cc: bool,
     rd: u32,
@@ -199,11 +248,13 @@ pub fn operate(
         Operation::Xnor => logic_word(f, regs, cc, rd, reg(regs, rs1) ^ complement(value(regs, x))),
         Operation::Addx => add_word(f, regs, carry(f), cc, rd, rs1, x),
         Operation::Subx => subtract_word(f, regs, carry(f), cc, rd, rs1, x),
+        Operation::Umul => multiply_word(f, regs, false, cc, rd, rs1, x),
+        Operation::Smul => multiply_word(f, regs, true, cc, rd, rs1, x),
     }
 }
 
 // A shift sets no flag.
-pub fn shift(regs: &mut [u32; 32], o: ShiftOperation, rd: u32, rs1: u32, x: Operand)
+pub fn shift(regs: &mut File, o: ShiftOperation, rd: u32, rs1: u32, x: Operand)
     ensures { λ _. ⌜ now (regs .exit) ≡ putRegister (now (regs .entry)) rd (shiftOf o (registerOf (now (regs .entry)) rs1) (valueOf (now (regs .entry)) x)) ⌝ }
 {
     match o {

@@ -10,6 +10,7 @@ ghost use Rattle.machine.specs.Ends.{left, settle};
 ghost use Rattle.machine.specs.Registers.{registerOf, addressOf};
 ghost use Rattle.machine.specs.DataArea.{widthOf, signOf, loadOf, storeOf, valueAt, putValue};
 use crate::End;
+use crate::registers::File;
 use crate::registers::address;
 use crate::registers::put;
 use crate::registers::reg;
@@ -60,7 +61,7 @@ fn byte_loaded(sign: bool, v: u32) -> u32
     v
 }
 
-fn load_word(db: u32, regs: &mut [u32; 32], area: &[u8], rd: u32, t: u32) -> End
+fn load_word(db: u32, regs: &mut File, area: &[u8], rd: u32, t: u32) -> End
     ensures { λ r. ⌜ left (now (regs .exit)) r ≡ settle (now (regs .entry)) (loadOf Word false db (now (area .entry)) rd t (now (regs .entry))) ⌝ }
 {
     if t % 4 == 0 {
@@ -74,7 +75,7 @@ fn load_word(db: u32, regs: &mut [u32; 32], area: &[u8], rd: u32, t: u32) -> End
     End::Misaligned(t)
 }
 
-fn load_half(sign: bool, db: u32, regs: &mut [u32; 32], area: &[u8], rd: u32, t: u32) -> End
+fn load_half(sign: bool, db: u32, regs: &mut File, area: &[u8], rd: u32, t: u32) -> End
     ensures { λ r. ⌜ left (now (regs .exit)) r ≡ settle (now (regs .entry)) (loadOf Half sign db (now (area .entry)) rd t (now (regs .entry))) ⌝ }
 {
     if t % 2 == 0 {
@@ -88,7 +89,7 @@ fn load_half(sign: bool, db: u32, regs: &mut [u32; 32], area: &[u8], rd: u32, t:
     End::Misaligned(t)
 }
 
-fn load_byte(sign: bool, db: u32, regs: &mut [u32; 32], area: &[u8], rd: u32, t: u32) -> End
+fn load_byte(sign: bool, db: u32, regs: &mut File, area: &[u8], rd: u32, t: u32) -> End
     ensures { λ r. ⌜ left (now (regs .exit)) r ≡ settle (now (regs .entry)) (loadOf Byte sign db (now (area .entry)) rd t (now (regs .entry))) ⌝ }
 {
     let at = numbers::subtract(t, db) as usize;
@@ -142,7 +143,7 @@ fn store_byte(db: u32, v: u32, area: &mut [u8], t: u32) -> End
 pub fn load(
     o: LoadOperation,
     db: u32,
-    regs: &mut [u32; 32],
+    regs: &mut File,
     area: &[u8],
     rd: u32,
     rs1: u32,
@@ -159,15 +160,7 @@ pub fn load(
     }
 }
 
-pub fn store(
-    w: Width,
-    db: u32,
-    regs: &[u32; 32],
-    area: &mut [u8],
-    rd: u32,
-    rs1: u32,
-    x: Operand,
-) -> End
+pub fn store(w: Width, db: u32, regs: &File, area: &mut [u8], rd: u32, rs1: u32, x: Operand) -> End
     ensures { λ r. ⌜ left (now (area .exit)) r ≡ settle (now (area .entry)) (storeOf w db (registerOf (now (regs .entry)) rd) (addressOf (now (regs .entry)) rs1 x) (now (area .entry))) ⌝ }
 {
     match w {

@@ -1,6 +1,7 @@
 // The effect of a word that does not transfer control: one function, which both cores call.
 ghost use mathlib.Core.Path.{_≡_};
 ghost use Rattle.words.specs.Conditions.{holdsOf};
+ghost use Rattle.machine.specs.declared.End.the-variants.{Going};
 ghost use Rattle.machine.specs.Ends.{left, settle};
 ghost use Rattle.machine.specs.Effect.{machine, trapOf, effectOf};
 use crate::End;
@@ -9,8 +10,13 @@ use crate::arithmetic::operate;
 use crate::arithmetic::shift;
 use crate::data_area::load;
 use crate::data_area::store;
+use crate::registers::File;
 use crate::registers::address;
 use crate::registers::put;
+use crate::registers::put_y;
+use crate::registers::reg;
+use crate::registers::value;
+use crate::registers::y;
 use words::Instruction;
 use words::Operand;
 
@@ -22,7 +28,7 @@ pub fn holds(f: Flags, cond: u32) -> bool
 }
 
 // The end that a Ticc meets, if its condition holds.
-fn trap(f: Flags, regs: &[u32; 32], cond: u32, rs1: u32, x: Operand) -> End
+fn trap(f: Flags, regs: &File, cond: u32, rs1: u32, x: Operand) -> End
     ensures { λ r. ⌜ left tt r ≡ settle tt (trapOf (f .nzvc) (now (regs .entry)) cond rs1 x) ⌝ }
 {
     if holds(f, cond) {
@@ -38,25 +44,26 @@ pub struct Effect {
     pub end: End,
 }
 
+// The run goes on.
+fn going(f: Flags) -> Effect
+    ensures { λ r. ⌜ (r .flags ≡ f) × (r .end ≡ Going) ⌝ }
+{
+    Effect {
+        flags: f,
+        end: End::Going,
+    }
+}
+
 // What a word does that does not transfer control; the others do nothing here.
-pub fn perform(i: Instruction, db: u32, regs: &mut [u32; 32], f: Flags, area: &mut [u8]) -> Effect
+pub fn perform(i: Instruction, db: u32, regs: &mut File, f: Flags, area: &mut [u8]) -> Effect
     ensures { λ r. ⌜ left (machine (now (regs .exit)) (r .flags .nzvc) (now (area .exit))) (r .end) ≡ settle (machine (now (regs .entry)) (f .nzvc) (now (area .entry))) (effectOf db i (machine (now (regs .entry)) (f .nzvc) (now (area .entry)))) ⌝ }
 {
     match i {
         Instruction::Sethi(rd, k) => {
             put(regs, rd, k << 10);
-            Effect {
-                flags: f,
-                end: End::Going,
-            }
+            going(f)
         }
-        Instruction::Arithmetic(o, cc, rd, rs1, x) => {
-            let g = operate(f, regs, o, cc, rd, rs1, x);
-            Effect {
-                flags: g,
-                end: End::Going,
-            }
-        }
+        Instruction::Arithmetic(o, cc, rd, rs1, x) => going(operate(f, regs, o, cc, rd, rs1, x)),
         Instruction::Ticc(cond, rs1, x) => {
             let e = trap(f, regs, cond, rs1, x);
             Effect { flags: f, end: e }
@@ -71,14 +78,17 @@ pub fn perform(i: Instruction, db: u32, regs: &mut [u32; 32], f: Flags, area: &m
         }
         Instruction::Shift(o, rd, rs1, x) => {
             shift(regs, o, rd, rs1, x);
-            Effect {
-                flags: f,
-                end: End::Going,
-            }
+            going(f)
         }
-        _ => Effect {
-            flags: f,
-            end: End::Going,
-        },
+        Instruction::Rdy(rd) => {
+            put(regs, rd, y(regs));
+            going(f)
+        }
+        Instruction::Wry(s) => {
+            let x = s.operand;
+            put_y(regs, reg(regs, s.rs1) ^ value(regs, x));
+            going(f)
+        }
+        _ => going(f),
     }
 }

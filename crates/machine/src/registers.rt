@@ -1,21 +1,26 @@
-// The 32 registers. Register 0 holds 0 at the start of a run, and each write leaves it so.
+// The register file: the 32 registers, and Y behind them. Register 0 holds 0 at the start of a run, and each write leaves it so.
 ghost use mathlib.Core.Path.{_≡_};
-ghost use Rattle.machine.specs.Registers.{registerOf, putRegister, valueOf, addressOf};
+ghost use Rattle.machine.specs.Registers.{registerOf, putRegister, yOf, putY, valueOf, addressOf};
 use words::Operand;
 
-fn reg_at(regs: &[u32; 32], i: usize) -> u32
+// How many numbers the file has, and the file: registers 0 to 31, then Y.
+pub const FILE: usize = 33;
+
+pub type File = [u32; FILE];
+
+fn reg_at(regs: &File, i: usize) -> u32
     ensures { λ r. ⌜ r ≡ registerOf (now (regs .entry)) i ⌝ }
 {
     regs[i % 32]
 }
 
-pub fn reg(regs: &[u32; 32], i: u32) -> u32
+pub fn reg(regs: &File, i: u32) -> u32
     ensures { λ r. ⌜ r ≡ registerOf (now (regs .entry)) i ⌝ }
 {
     reg_at(regs, i as usize)
 }
 
-pub fn put(regs: &mut [u32; 32], i: u32, v: u32)
+pub fn put(regs: &mut File, i: u32, v: u32)
     ensures { λ r. ⌜ now (regs .exit) ≡ putRegister (now (regs .entry)) i v ⌝ }
 {
     let k = (i % 32) as usize;
@@ -23,7 +28,19 @@ pub fn put(regs: &mut [u32; 32], i: u32, v: u32)
     regs[0] = 0;
 }
 
-pub fn value(regs: &[u32; 32], x: Operand) -> u32
+pub fn y(regs: &File) -> u32
+    ensures { λ r. ⌜ r ≡ yOf (now (regs .entry)) ⌝ }
+{
+    regs[32]
+}
+
+pub fn put_y(regs: &mut File, v: u32)
+    ensures { λ r. ⌜ now (regs .exit) ≡ putY (now (regs .entry)) v ⌝ }
+{
+    regs[32] = v;
+}
+
+pub fn value(regs: &File, x: Operand) -> u32
     ensures { λ r. ⌜ r ≡ valueOf (now (regs .entry)) x ⌝ }
 {
     match x {
@@ -33,7 +50,7 @@ pub fn value(regs: &[u32; 32], x: Operand) -> u32
 }
 
 // The sum of a register and a second operand: a data address, or where a jmpl goes.
-pub fn address(regs: &[u32; 32], rs1: u32, x: Operand) -> u32
+pub fn address(regs: &File, rs1: u32, x: Operand) -> u32
     ensures { λ r. ⌜ r ≡ addressOf (now (regs .entry)) rs1 x ⌝ }
 {
     numbers::add(reg(regs, rs1), value(regs, x))

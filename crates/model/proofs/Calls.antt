@@ -8,7 +8,7 @@ use lib.Dec.{leb}
 use lib.ListN.{length}
 use borrow.Author.Tests.{leb-true, ne-eqb}
 use Rattle.numbers.specs.Choice.{pick}
-use Rattle.numbers.specs.Number.{Below, numberAt, numbersOf}
+use Rattle.numbers.specs.Number.{Below, numberAt}
 use Rattle.numbers.proofs.Bounds.{number-lt}
 use Rattle.words.specs.Conditions.{bitOf}
 use Rattle.machine.specs.Ends.{Ending, ending, endingFrom, state}
@@ -16,7 +16,7 @@ use Rattle.machine.specs.Effect.{Machine, machine}
 use Rattle.model.specs.Run.{dataOf}
 use Rattle.model.specs.OldCore.{Old, old, oldNext}
 use Rattle.model.specs.NewCore.{New, new, newNext}
-use Rattle.model.specs.StateBytes.{oldIn, oldBytes, newIn, newBytes, oldAfter, newAfter}
+use Rattle.model.specs.StateBytes.{fileIn, oldBehind, newBehind, oldIn, oldBytes, newIn, newBytes, oldAfter, newAfter}
 use Rattle.model.proofs.Bounds.{SoundState, SoundOld, old-leaves, SoundNew, new-leaves}
 use Rattle.model.proofs.RoundTrip.{tail-back, machine-back, shown-back, annul-back, end-back, machine-sound}
 use Rattle.model.proofs.Coded.{Coded}
@@ -76,16 +76,16 @@ module _ (n : ℕ) (m : Machine) (pc npc : ℕ) (annul : Bool) (k v : ℕ) (h : 
   unfolding oldBytes
   old-annul = tail-back n m (oldTail pc npc annul k v) (oldPart .0) old-below 2 140 (omega arith) (omega arith)
 
-  pub old-shows : machine (numbersOf (oldBytes (state (old m pc npc annul) (ending k v))) 32) (numberAt (oldBytes (state (old m pc npc annul) (ending k v))) 128) (m .area) ≡ m
+  pub old-shows : machine (fileIn oldBehind (oldBytes (state (old m pc npc annul) (ending k v)))) (numberAt (oldBytes (state (old m pc npc annul) (ending k v))) 128) (m .area) ≡ m
   unfolding oldBytes
-  old-shows = shown-back n m (oldTail pc npc annul k v) (oldPart .0) old-below
+  old-shows = shown-back n m (oldTail pc npc annul k v) (oldPart .0) old-below oldBehind (omega arith)
 
   old-back : oldIn (oldBytes (state (old m pc npc annul) (ending k v))) (m .area) ≡ state (old m pc npc annul) (ending k v)
   unfolding oldIn oldBytes
   old-back =
       let t = tail-back n m (oldTail pc npc annul k v) (oldPart .0) old-below in
       rw (
-        machine-back n m (oldTail pc npc annul k v) (oldPart .0) old-below,
+        machine-back n m (oldTail pc npc annul k v) (oldPart .0) old-below oldBehind (omega arith),
         t 0 132 (omega arith) (omega arith),
         t 1 136 (omega arith) (omega arith),
         t 2 140 (omega arith) (omega arith),
@@ -122,7 +122,7 @@ pub old-sound : (bs l : List ℕ) → Below 256 bs → Below 256 l → SoundStat
 unfolding oldIn
 old-sound bs l b d =
     from-sound (SoundOld (length (dataOf l))) _ (numberAt bs 144) (numberAt bs 148) (number-lt bs 148 b)
-    (machine-sound bs l b d, number-lt bs 132 b, number-lt bs 136 b)
+    (machine-sound oldBehind bs l b d, number-lt bs 132 b, number-lt bs 136 b)
 
 -- ---------------------------------------------------------------- the new core
 abbrev pub newArea : New → List ℕ
@@ -149,16 +149,16 @@ module _ (n : ℕ) (m : Machine) (r g : ℕ) (k v : ℕ) (h : SoundState (SoundN
   unfolding newBytes
   new-held = tail-back n m (newTail r g k v) (newPart .0) new-below 1 136 (omega arith) (omega arith)
 
-  pub new-shows : machine (numbersOf (newBytes (state (new m r g) (ending k v))) 32) (numberAt (newBytes (state (new m r g) (ending k v))) 128) (m .area) ≡ m
+  pub new-shows : machine (fileIn newBehind (newBytes (state (new m r g) (ending k v)))) (numberAt (newBytes (state (new m r g) (ending k v))) 128) (m .area) ≡ m
   unfolding newBytes
-  new-shows = shown-back n m (newTail r g k v) (newPart .0) new-below
+  new-shows = shown-back n m (newTail r g k v) (newPart .0) new-below newBehind (omega arith)
 
   new-back : newIn (newBytes (state (new m r g) (ending k v))) (m .area) ≡ state (new m r g) (ending k v)
   unfolding newIn newBytes
   new-back =
       let t = tail-back n m (newTail r g k v) (newPart .0) new-below in
       rw (
-        machine-back n m (newTail r g k v) (newPart .0) new-below,
+        machine-back n m (newTail r g k v) (newPart .0) new-below newBehind (omega arith),
         t 0 132 (omega arith) (omega arith),
         t 1 136 (omega arith) (omega arith),
         t 2 140 (omega arith) (omega arith),
@@ -194,4 +194,4 @@ pub new-sound : (bs l : List ℕ) → Below 256 bs → Below 256 l → SoundStat
 unfolding newIn
 new-sound bs l b d =
     from-sound (SoundNew (length (dataOf l))) _ (numberAt bs 140) (numberAt bs 144) (number-lt bs 144 b)
-    (machine-sound bs l b d, number-lt bs 132 b, number-lt bs 136 b)
+    (machine-sound newBehind bs l b d, number-lt bs 132 b, number-lt bs 136 b)

@@ -3,15 +3,16 @@ use Rattle.model.specs.Translation.{answerNumbers, badLength, badCount, 
 use Rattle.model.specs.Walk.{grow, grown, tested, handle, walk, placesOf}
 use Rattle.model.specs.Records.{numbersIn, rowAt, rowsIn, recordOf, recordAt, recordsIn, biccGroup, groupOf, heldGroupOf, groupAt, heldGroupAt, group, past, numbered, put, tableNumbers, recordNumbers, recordsNumbers, first, rowsFrom, recordsFrom, rowsOf, recordsOf}
 use Rattle.model.specs.Places.{kindOf, nextOf, placeAt, samePlace, member, whichOf, biccNames, returnNames, names, namesAt, unimpIn, unimpBehind, followers, idleBicc, mayBeHeld, mayBeHeldAt, allowed, plains}
+use Rattle.numbers.proofs.Choice.{both}
 use Rattle.numbers.specs.Number.{plus, minus, signed, numberAt, bytesOf, numbersOf, upTo}
-use Rattle.words.specs.Reader.{bits, bitSet, operandOf, format0Of, format2Of, format3Of, setFrom, registerStrays, unusedSet, strictly, byFormat, instructionOf, isUnimp}
+use Rattle.words.specs.Reader.{bits, bitSet, operandOf, format0Of, format2Of, format3Of, setFrom, registerStrays, rdyStrays, wryStrays, unusedSet, strictly, byFormat, instructionOf, isUnimp}
 use Rattle.words.specs.Conditions.{rows, bitAt, holdsOf, bitOf, nzvcOf}
 use Rattle.machine.proofs.Opened.{machine-open}
-use Rattle.model.specs.Cases.{over, start, shown, endOf, ended, newEnded, stepAt, cases, noCase, Row, bytesBack, given, answered, listedAt, listed, entriesTold, told, begins, oldTold, newTold}
+use Rattle.model.specs.Cases.{over, start, shown, product, endOf, ended, newEnded, stepAt, cases, noCase, Row, bytesBack, given, answered, listedAt, listed, entriesTold, told, begins, beginsWithY, oldCut, oldTold, newCut, newTold, yTold}
 use Rattle.model.specs.Cores.{shownOf, oldMark, oldShown, naming, newMark, newShown, goesBy, newByHeld, newTrailAt}
 use Rattle.model.specs.NewCore.{following, fit, doesWord, holds, chooses, seek, lost, goes, stops, does, newNext, begunAt, newBegun}
 use Rattle.model.specs.Run.{step, run, zeroed}
-use Rattle.model.specs.StateBytes.{machineIn, newBytes, newAfter, newBegins}
+use Rattle.model.specs.StateBytes.{fileIn, machineIn, oldBytes, oldBegins, newBytes, newAfter, newBegins}
 use Rattle.model.specs.OldCore.{inImage, wordIn, transferOf, target, follows, branches, jumps, executes, fetches, oldNext, oldBegun}
 use Prim.Native.Nat.{ℕ, zero, suc, _<_}
 use mathlib.Core.Path.{_≡_, refl}
@@ -27,10 +28,6 @@ sameList [] [] = true
 sameList [] (y ∷ ys) = false
 sameList (x ∷ xs) [] = false
 sameList (x ∷ xs) (y ∷ ys) = eqb x y && sameList xs ys
-
-both : (a b : Bool) → a && b ≡ true → (a ≡ true) × (b ≡ true)
-both true b e = (refl, e)
-both false b e = absurd (false≢true e)
 
 same-list : (xs ys : List ℕ) → sameList xs ys ≡ true → xs ≡ ys
 same-list [] [] e = refl
@@ -54,7 +51,7 @@ each-row (r ∷ rs) e (suc i) h = each-row rs (both (sameList (r .got) (r .want)
 -- ---------------------------------------------------------------- the definitions, opened layer by layer
 -- numbers, and the words that they read as
 words-open : Unit {0}
-unfolding plus minus signed numberAt bytesOf numbersOf upTo bits bitSet operandOf format0Of format2Of format3Of setFrom registerStrays unusedSet strictly byFormat instructionOf isUnimp rows bitAt holdsOf bitOf nzvcOf
+unfolding plus minus signed numberAt bytesOf numbersOf upTo bits bitSet operandOf format0Of format2Of format3Of setFrom registerStrays rdyStrays wryStrays unusedSet strictly byFormat instructionOf isUnimp rows bitAt holdsOf bitOf nzvcOf
 words-open = tt
 
 -- the old core
@@ -74,7 +71,7 @@ records-open = tt
 
 -- the new core
 new-open : Unit {0}
-unfolding following fit doesWord holds chooses seek lost goes stops does newNext begunAt newBegun zeroed machineIn newBytes newAfter newBegins
+unfolding following fit doesWord holds chooses seek lost goes stops does newNext begunAt newBegun zeroed fileIn machineIn oldBytes oldBegins newBytes newAfter newBegins
 new-open = tt
 
 -- trails
@@ -84,7 +81,7 @@ trails-open = tt
 
 -- what a row shows
 rows-open : Unit {0}
-unfolding cases newEnded stepAt bytesBack given answered listedAt listed endOf entriesTold told begins oldTold newTold over start shown ended
+unfolding cases newEnded stepAt bytesBack given answered listedAt listed endOf entriesTold told begins beginsWithY oldCut oldTold newCut newTold yTold over start shown product ended
 rows-open = tt
 
 pub cases-hold : (i : ℕ) → i < length cases → getD cases i noCase .got ≡ getD cases i noCase .want

@@ -1,5 +1,5 @@
 -- Demand 3.
-use Prim.Native.Nat.{ℕ, suc, _+_, _*_, _^_, _≤_, _<_}
+use Prim.Native.Nat.{ℕ, suc, _+_, _-_, _*_, _^_, _≤_, _<_}
 use native.Mathlib.Nat.{zero-add}
 use native.Mathlib.Omega.{arith}
 use mathlib.Core.Path.{_≡_, refl, sym, ap, _∙_}
@@ -12,6 +12,7 @@ use Rattle.numbers.specs.Number.{Below, plus, upTo, bytesOf}
 use Rattle.numbers.proofs.Bounds.{below-bytes}
 use Rattle.numbers.proofs.Lists.{length-up}
 use Rattle.machine.specs.Ends.{Ending, ending, halt, State, state, live, settle}
+use Rattle.machine.specs.Registers.{fileSize, yOf}
 use Rattle.machine.specs.Effect.{Machine, machine}
 use Rattle.model.specs.declared.Place.{Place}
 use Rattle.model.specs.declared.Answer.the-variants.{Accepted}
@@ -40,17 +41,18 @@ use Rattle.model.proofs.Accepted.{words-lt, numbers-lt, entries-aligned
 
 -- ---------------------------------------------------------------- the first entry is the start
 begins : (x : Start) (t rest : Trail) → t ≡ at 0 (x .address) (shownOf (startMachine x)) rest → Begins x t
-unfolding shownOf
+unfolding shownOf yOf
 begins x t rest e =
     record {
-      registers = 0 ∷ upTo (λ i. getD (x .registers) (i + 1) 0) 31;
+      registers = 0 ∷ upTo (λ i. getD (x .registers) (i + 1) 0) (fileSize - 1);
       flags = x .flags;
       area = take 65536 (x .area);
       rest = rest;
       first = e ∙ ap (λ (m : Machine). at 0 (x .address) m rest) (shown-again (machine (x .registers) (x .flags) (x .area)));
-      thirty-two = ap suc (length-up (λ i. getD (x .registers) (i + 1) 0) 31);
+      whole = ap suc (length-up (λ i. getD (x .registers) (i + 1) 0) (fileSize - 1));
       register-0 = refl;
-      others = get-other (x .registers);
+      others = λ i l h. get-other (x .registers) i l (omega arith);
+      same-y = get-other (x .registers) 32 (omega arith) (omega arith);
       same-flags = refl;
       same-bytes = refl;
     }

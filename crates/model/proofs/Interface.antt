@@ -25,7 +25,7 @@ use Rattle.model.specs.Translation.{answerNumbers, Handed, translation, 
 use Rattle.model.specs.Trails.{Core, Unspent}
 use Rattle.model.specs.Cores.{oldMark, oldShown, oldOver, newMark, newShown, newByHeld, newOver, oldBegin, newBegin, stepsFor, trailOf}
 use Rattle.model.specs.Demand3.{Placed, Complete, Strays, Holds, Demand3}
-use Rattle.model.specs.StateBytes.{machineIn, oldIn, oldBytes, newIn, newBytes, After, oldAfter, newAfter, oldBegins, oldRuns, newBegins, newRuns}
+use Rattle.model.specs.StateBytes.{oldBehind, newBehind, machineIn, oldIn, oldBytes, newIn, newBytes, After, oldAfter, newAfter, oldBegins, oldRuns, newBegins, newRuns}
 use Rattle.model.specs.Interface.{Bytes, bytes, answered, called, bytesShown, oldBytesMark, oldCalls, newBytesMark, newBytesByHeld, newCalls, oldStarted, newStarted, startOf, Interface}
 use Rattle.model.proofs.Hop.{Over}
 use Rattle.model.proofs.Bounds.{SoundOld, SoundNew, found-lt}
@@ -68,7 +68,7 @@ module _ (image : List ℕ) (base db : ℕ) (l : List ℕ) where
       go true = refl
       go false = refl
 
-  old-shown-same : (b : Bytes) (s : Old) → OldHolds b s → bytesShown b ≡ oldShown s
+  old-shown-same : (b : Bytes) (s : Old) → OldHolds b s → bytesShown oldBehind b ≡ oldShown s
   unfolding bytesShown oldShown oldAfter
   old-shown-same b (old m pc npc annul) h =
       let n = length (dataOf l) in
@@ -85,16 +85,16 @@ module _ (image : List ℕ) (base db : ℕ) (l : List ℕ) where
       }
 
   -- begun bytes hold the begun state
-  pub old-beside : (p : ℕ) (bs : List ℕ) → Below 256 bs → Below 256 l → p < 2 ^ 32 → Beside OldHolds (oldStarted p (bytes bs l)) (oldBegin (startOf p (bytes bs l)))
+  pub old-beside : (p : ℕ) (bs : List ℕ) → Below 256 bs → Below 256 l → p < 2 ^ 32 → Beside OldHolds (oldStarted p (bytes bs l)) (oldBegin (startOf oldBehind p (bytes bs l)))
   unfolding oldBegins oldBytes oldAfter machineIn oldBegun
   old-beside p bs b d lp =
-      let m : Machine = machineIn bs (dataOf l) in (
+      let m : Machine = machineIn oldBehind bs (dataOf l) in (
         old m p (plus p 4) false,
         (
-          rw (start-shown bs (numberAt bs 128 % 16) l),
+          rw (start-shown oldBehind bs (numberAt bs 128 % 16) l),
           (
             ap (λ (a : List ℕ). bytes (oldBytes (live (old m p (plus p 4) false))) a) (sym (take-append-drop 65536 l)),
-            (machine-sound bs l b d, lp, plus-lt p 4),
+            (machine-sound oldBehind bs l b d, lp, plus-lt p 4),
           ),
         ),
       )
@@ -114,7 +114,7 @@ module _ (records places : List ℕ) (base size db : ℕ) (br : Below 256 record
       let n = length (dataOf l) in
       rw (h .0, new-record n m r g 0 0 (h .1, refl), new-held n m r g 0 0 (h .1, refl))
 
-  new-shown-same : (b : Bytes) (s : New) → NewHolds b s → bytesShown b ≡ newShown s
+  new-shown-same : (b : Bytes) (s : New) → NewHolds b s → bytesShown newBehind b ≡ newShown s
   unfolding bytesShown newShown newAfter
   new-shown-same b (new m r g) h =
       let n = length (dataOf l) in
@@ -131,20 +131,20 @@ module _ (records places : List ℕ) (base size db : ℕ) (br : Below 256 record
       }
 
   pub new-beside : (q f : ℕ) (bs : List ℕ) → Below 256 bs → Below 256 l → f < 2 ^ 32 → seek (rowsIn places) q ≡ some f
-      → Beside NewHolds (newStarted places base size q (bytes bs l)) (newBegin places base size (startOf q (bytes bs l)))
+      → Beside NewHolds (newStarted places base size q (bytes bs l)) (newBegin places base size (startOf newBehind q (bytes bs l)))
   unfolding newBegins newBytes newAfter machineIn newBegun begunAt
   new-beside q f bs b d lf e =
-      let m : Machine = machineIn bs (dataOf l) in
+      let m : Machine = machineIn newBehind bs (dataOf l) in
       rw e (
         new m f 0,
         (
-          rw (start-shown bs (numberAt bs 128 % 16) l),
-          (ap (λ (a : List ℕ). bytes (newBytes (live (new m f 0))) a) (sym (take-append-drop 65536 l)), (machine-sound bs l b d, lf, omega arith)),
+          rw (start-shown newBehind bs (numberAt bs 128 % 16) l),
+          (ap (λ (a : List ℕ). bytes (newBytes (live (new m f 0))) a) (sym (take-append-drop 65536 l)), (machine-sound newBehind bs l b d, lf, omega arith)),
         ),
       )
 
   pub new-live : (q f : ℕ) (bs : List ℕ) → seek (rowsIn places) q ≡ some f
-      → newStarted places base size q (bytes bs l) ≡ live (bytes (newBytes (live (new (machineIn bs []) f 0))) l)
+      → newStarted places base size q (bytes bs l) ≡ live (bytes (newBytes (live (new (machineIn newBehind bs []) f 0))) l)
   unfolding newBegins newAfter newBegun begunAt
   new-live q f bs e = rw e
 
@@ -181,10 +181,10 @@ module _ (image : List ℕ) (base : ℕ) (entryList : List ℕ) (cap : ℕ) (pla
 
   module _ (b c : Bytes) (bb : Below 256 (b .state)) (bd : Below 256 (b .area)) (cb : Below 256 (c .state)) (cd : Below 256 (c .area))
       (p q : ℕ) (lp : p < 2 ^ 32) (hq : Placed image base entryList q) (k : ℕ) where
-    old-trails : trailOf OC k (oldStarted p b) ≡ trailOf (oldOver image base db) k (oldBegin (startOf p b))
+    old-trails : trailOf OC k (oldStarted p b) ≡ trailOf (oldOver image base db) k (oldBegin (startOf oldBehind p b))
     old-trails =
         trail-same OC (oldOver image base db) (OldHolds image base db (b .area)) (old-related image base db (b .area)) (stepsFor k) k 0 (oldStarted p b)
-        (oldBegin (startOf p b)) (old-beside image base db (b .area) p (b .state) bb bd lp)
+        (oldBegin (startOf oldBehind p b)) (old-beside image base db (b .area) p (b .state) bb bd lp)
 
     abbrev NH : Bytes → New → Type 0
     NH = NewHolds records places base size db (L .records-bytes) (L .places-bytes) (c .area)
@@ -193,7 +193,7 @@ module _ (image : List ℕ) (base : ℕ) (entryList : List ℕ) (cap : ℕ) (pla
     N = newOver records places base size db
 
     abbrev begun : State New
-    begun = newBegin places base size (startOf q c)
+    begun = newBegin places base size (startOf newBehind q c)
 
     abbrev started : State Bytes
     started = newStarted places base size q c
@@ -223,14 +223,14 @@ module _ (image : List ℕ) (base : ℕ) (entryList : List ℕ) (cap : ℕ) (pla
       strays-on NC N NH related (Placed image base entryList) (inImage base size) k started begun h beside,
     )
 
-    pub on-bytes : Holds (Placed image base entryList) (inImage base size) k (startOf p b) (startOf q c) (oldOver image base db)
-        (oldBegin (startOf p b)) N begun
-        → Holds (Placed image base entryList) (inImage base size) k (startOf p b) (startOf q c) OC (oldStarted p b) NC started
+    pub on-bytes : Holds (Placed image base entryList) (inImage base size) k (startOf oldBehind p b) (startOf newBehind q c) (oldOver image base db)
+        (oldBegin (startOf oldBehind p b)) N begun
+        → Holds (Placed image base entryList) (inImage base size) k (startOf oldBehind p b) (startOf newBehind q c) OC (oldStarted p b) NC started
     on-bytes H =
-        holds-on (Placed image base entryList) (inImage base size) k (startOf p b) (startOf q c)
-        (oldOver image base db) (oldBegin (startOf p b)) N begun OC (oldStarted p b) NC started old-trails new-trails
+        holds-on (Placed image base entryList) (inImage base size) k (startOf oldBehind p b) (startOf newBehind q c)
+        (oldOver image base db) (oldBegin (startOf oldBehind p b)) N begun OC (oldStarted p b) NC started old-trails new-trails
         (complete OC over-old k (bytes (oldBegins p (b .state)) (b .area)) (subst Unspent (sym old-trails) (H .old-complete .unspent)))
-        (complete-at NC over-new k started (bytes (newBytes (live (new (machineIn (c .state) []) f 0))) (c .area))
+        (complete-at NC over-new k started (bytes (newBytes (live (new (machineIn newBehind (c .state) []) f 0))) (c .area))
         (new-live records places base size db (L .records-bytes) (L .places-bytes) (c .area) q f (c .state) found)
         (subst Unspent (sym new-trails) (H .new-complete .unspent)))
         strays-same H
@@ -257,5 +257,5 @@ interface image base entryList placesLength recordsLength placeCount recordCount
     let L = laid image base entryList placesLength recordsLength placeCount recordCount ib eb handed refl accepted places records et′ er′ in
     on-bytes image base entryList (placeRoom placesLength) places records L db b c bb bd cb cd p q
     (placed-lt image base entryList (placeRoom placesLength) places records L p hp) hq k
-    (demand3 image base entryList placesLength recordsLength placeCount recordCount ib eb handed refl accepted (startOf p b) (startOf q c) hp hq
+    (demand3 image base entryList placesLength recordsLength placeCount recordCount ib eb handed refl accepted (startOf oldBehind p b) (startOf newBehind q c) hp hq
     db k lk places records et′ er′)

@@ -1,26 +1,26 @@
 -- A sound state comes back from its bytes, and any bytes are a sound state's.
-use Prim.Native.Nat.{ℕ, zero, suc, _+_, _*_, _%_, _^_, _≤_, _<_}
+use Prim.Native.Nat.{ℕ, zero, suc, _+_, _-_, _*_, _%_, _^_, _≤_, _<_}
 use native.Mathlib.Omega.{arith}
 use native.Mathlib.Nat.{mod-eq-of-lt}
 use mathlib.Core.Path.{_≡_, refl, ap, _∙_}
 use mathlib.Core.Bool.{Bool, true, false}
-use mathlib.Core.List.{List, [], _∷_, _++_, append-nil}
+use mathlib.Core.List.{List, [], _∷_, _++_, append-nil, append-assoc}
 use lib.Dec.{leb}
-use lib.ListN.{length, getD, drop, set, length-set, length-append, List·getD-append, drop-of-length-le}
+use lib.ListN.{length, getD, take, drop, set, length-set, length-append, length-drop, take-append-drop, List·getD-append, drop-of-length-le}
 use lib.Seq.{take-all, take-at, drop-at, length-take-le}
 use borrow.Author.Tests.{leb-true, leb-false, ne-eqb, le-leb}
 use Rattle.numbers.specs.Number.{Below, numberAt, numbersOf, bytesOf, upTo}
-use Rattle.numbers.proofs.Lists.{length-up, up-list}
-use Rattle.numbers.proofs.Number.{number-packed}
-use Rattle.numbers.proofs.Bounds.{below-append, below-set, below-take, below-up, number-lt}
+use Rattle.numbers.proofs.Number.{number-packed, length-numbers, drop-bytes, numbers-front}
+use Rattle.numbers.proofs.Bounds.{below-append, below-set, below-take, below-drop, below-up, number-lt}
 use Rattle.words.specs.Conditions.{bitOf}
 use Rattle.machine.specs.Ends.{ending, endingFrom}
+use Rattle.machine.specs.Registers.{fileSize}
 use Rattle.machine.specs.Effect.{Machine, machine}
 use Rattle.machine.proofs.Bounds.{Sound, SoundEnd}
 use Rattle.machine.proofs.Zero.{Zero, set-zero}
 use Rattle.model.specs.Run.{zeroed, dataOf, beyond}
 use Rattle.model.specs.OldState.{isSet}
-use Rattle.model.specs.StateBytes.{machineIn}
+use Rattle.model.specs.StateBytes.{fileIn, machineIn, stateNumbers}
 
 -- ---------------------------------------------------------------- the data of a lent area
 -- a part as long as the data, with what lies beyond it, has that data and that rest
@@ -47,45 +47,78 @@ pub set-same : (l : List ℕ) → Zero l → set l 0 0 ≡ l
 set-same [] z = refl
 set-same (x ∷ l) z = rw z
 
-module _ (n : ℕ) (m : Machine) (tail : List ℕ) (s : Sound n m) (b : Below (2 ^ 32) tail) where
-  -- registers, flags, and what follows them
+-- the file of a state's bytes has all its numbers
+pub length-file : (behind : ℕ) (bytes : List ℕ) → length (fileIn behind bytes) ≡ fileSize
+unfolding fileIn
+length-file behind bytes =
+    length-append (numbersOf bytes 32) (numbersOf (drop behind bytes) (fileSize - 32))
+    ∙ rw (length-numbers bytes 32, length-numbers (drop behind bytes) (fileSize - 32))
+
+module _ (n : ℕ) (m : Machine) (between : List ℕ) (s : Sound n m) (b : Below (2 ^ 32) between) where
+  -- registers, flags, what a core has between, and the rest of the file
   abbrev ns : List ℕ
-  ns = m .registers ++ (m .flags ∷ tail)
+  ns = stateNumbers m between
+
+  abbrev front : List ℕ
+  front = take 32 (m .registers)
+
+  abbrev behind : List ℕ
+  behind = drop 32 (m .registers)
+
+  front-length : length front ≡ 32
+  front-length = length-take-le 32 (m .registers) (omega (arith, s .whole))
+
+  behind-length : length behind ≡ fileSize - 32
+  behind-length = length-drop 32 (m .registers) ∙ omega (arith, s .whole)
+
+  behind-below : Below (2 ^ 32) behind
+  behind-below = below-drop (2 ^ 32) 32 (m .registers) (s .registers)
 
   all-below : Below (2 ^ 32) ns
-  all-below = below-append (2 ^ 32) (m .registers) (m .flags ∷ tail) (s .registers) (omega (arith, s .flags), b)
+  all-below =
+      below-append (2 ^ 32) front (m .flags ∷ (between ++ behind)) (below-take (2 ^ 32) 32 (m .registers) (s .registers))
+      (omega (arith, s .flags), below-append (2 ^ 32) between behind b behind-below)
 
-  all-length : length ns ≡ 33 + length tail
-  all-length = omega (arith, length-append (m .registers) (m .flags ∷ tail), s .thirty-two)
+  all-length : length ns ≡ 33 + length between + length behind
+  all-length = omega (arith, length-append front (m .flags ∷ (between ++ behind)), length-append between behind, front-length)
 
-  register-back : (i : ℕ) → i < length (m .registers) → numberAt (bytesOf ns) (4 * i) ≡ getD (m .registers) i 0
-  register-back i h =
-      number-packed ns i (4 * i) all-below (omega (arith, all-length, s .thirty-two)) refl ∙ List·getD-append (m .registers) (m .flags ∷ tail) 0 i h
+  -- number 32 + j of the state
+  number-back : (j at : ℕ) → j < 1 + length between + length behind → at ≡ 128 + 4 * j
+      → numberAt (bytesOf ns) at ≡ getD (m .flags ∷ (between ++ behind)) j 0
+  number-back j at h e =
+      let k : 32 + j ≡ length front + j = omega (arith, front-length) in
+      number-packed ns (32 + j) at all-below (omega (arith, all-length)) (omega arith) ∙ ap (λ (i : ℕ). getD ns i 0) k
+      ∙ get-past front (m .flags ∷ (between ++ behind)) j
 
-  registers-back : numbersOf (bytesOf ns) 32 ≡ m .registers
-  unfolding numbersOf
-  registers-back = rw (s .thirty-two) at (up-list 0 (λ i. numberAt (bytesOf ns) (4 * i)) (m .registers) register-back)
+  flags-back : numberAt (bytesOf ns) 128 ≡ m .flags
+  flags-back = number-back 0 128 (omega arith) (omega arith)
 
-  pub flags-back : numberAt (bytesOf ns) 128 ≡ m .flags
-  flags-back =
-      let e : 32 ≡ length (m .registers) + 0 = omega (arith, s .thirty-two) in
-      number-packed ns 32 128 all-below (omega (arith, all-length)) refl ∙ ap (λ (i : ℕ). getD ns i 0) e ∙ get-past (m .registers) (m .flags ∷ tail) 0
+  pub tail-back : (j at : ℕ) → j < length between → at ≡ 132 + 4 * j → numberAt (bytesOf ns) at ≡ getD between j 0
+  tail-back j at h e = number-back (suc j) at (omega arith) (omega arith) ∙ List·getD-append between behind 0 j h
 
-  -- number 33 + j of the state
-  pub tail-back : (j at : ℕ) → j < length tail → at ≡ 132 + 4 * j → numberAt (bytesOf ns) at ≡ getD tail j 0
-  tail-back j at h e =
-      let k : 33 + j ≡ length (m .registers) + suc j = omega (arith, s .thirty-two) in
-      number-packed ns (33 + j) at all-below (omega (arith, all-length)) (omega arith) ∙ ap (λ (i : ℕ). getD ns i 0) k
-      ∙ get-past (m .registers) (m .flags ∷ tail) (suc j)
+  -- the file comes back from where the numbers between end
+  behind-bytes : (at : ℕ) → at ≡ 132 + 4 * length between → drop at (bytesOf ns) ≡ bytesOf behind
+  behind-bytes at e =
+      let f : at ≡ 4 * (33 + length between) = omega arith in
+      let l : length (front ++ (m .flags ∷ between)) ≡ 33 + length between = omega (arith, length-append front (m .flags ∷ between), front-length) in
+      rw (f, drop-bytes (33 + length between) ns, ← append-assoc front (m .flags ∷ between) behind, drop-at (front ++ (m .flags ∷ between)) behind (33 + length between) l)
 
-  pub machine-back : machineIn (bytesOf ns) (m .area) ≡ m
+  file-back : (at : ℕ) → at ≡ 132 + 4 * length between → fileIn at (bytesOf ns) ≡ m .registers
+  unfolding fileIn
+  file-back at e =
+      let f : numbersOf (bytesOf ns) 32 ≡ front = rw front-length at (numbers-front front (m .flags ∷ (between ++ behind)) all-below) in
+      let g : numbersOf (bytesOf behind) (fileSize - 32) ≡ behind =
+      rw (append-nil behind, behind-length) at (numbers-front behind [] (rw (append-nil behind) behind-below)) in
+      rw (f, behind-bytes at e, g, take-append-drop 32 (m .registers))
+
+  pub machine-back : (at : ℕ) → at ≡ 132 + 4 * length between → machineIn at (bytesOf ns) (m .area) ≡ m
   unfolding machineIn zeroed
-  machine-back =
+  machine-back at e =
       let f : m .flags % 16 ≡ m .flags = mod-eq-of-lt (s .flags) in
-      rw (registers-back, set-same (m .registers) (s .zero), flags-back, f)
+      rw (file-back at e, set-same (m .registers) (s .zero), flags-back, f)
 
-  pub shown-back : machine (numbersOf (bytesOf ns) 32) (numberAt (bytesOf ns) 128) (m .area) ≡ m
-  shown-back = rw (registers-back, flags-back)
+  pub shown-back : (at : ℕ) → at ≡ 132 + 4 * length between → machine (fileIn at (bytesOf ns)) (numberAt (bytesOf ns) 128) (m .area) ≡ m
+  shown-back at e = rw (file-back at e, flags-back)
 
 -- ---------------------------------------------------------------- annul and the end
 pub annul-back : (b : Bool) → isSet (bitOf b) ≡ b
@@ -98,13 +131,20 @@ unfolding endingFrom
 end-back k v s = rw (ne-eqb (suc k) 0 (λ e. omega arith), le-leb (suc k) 7 (s .1))
 
 -- ---------------------------------------------------------------- any bytes are a sound state's
-pub machine-sound : (bytes area : List ℕ) → Below 256 bytes → Below 256 area → Sound (length (dataOf area)) (machineIn bytes (dataOf area))
-unfolding machineIn zeroed numbersOf
-machine-sound bytes area b d =
-    let rs = upTo (λ i. numberAt bytes (4 * i)) 32 in
+file-below : (at : ℕ) (bytes : List ℕ) → Below 256 bytes → Below (2 ^ 32) (fileIn at bytes)
+unfolding fileIn numbersOf
+file-below at bytes b =
+    below-append (2 ^ 32) (upTo (λ i. numberAt bytes (4 * i)) 32) (upTo (λ i. numberAt (drop at bytes) (4 * i)) (fileSize - 32))
+    (below-up (2 ^ 32) (λ i. numberAt bytes (4 * i)) 32 (λ i. number-lt bytes (4 * i) b))
+    (below-up (2 ^ 32) (λ i. numberAt (drop at bytes) (4 * i)) (fileSize - 32) (λ i. number-lt (drop at bytes) (4 * i) (below-drop 256 at bytes b)))
+
+pub machine-sound : (at : ℕ) (bytes area : List ℕ) → Below 256 bytes → Below 256 area → Sound (length (dataOf area)) (machineIn at bytes (dataOf area))
+unfolding machineIn zeroed
+machine-sound at bytes area b d =
+    let rs = fileIn at bytes in
     record {
-      thirty-two = length-set rs 0 0 ∙ length-up (λ i. numberAt bytes (4 * i)) 32;
-      registers = below-set (2 ^ 32) rs 0 0 (omega arith) (below-up (2 ^ 32) (λ i. numberAt bytes (4 * i)) 32 (λ i. number-lt bytes (4 * i) b));
+      whole = length-set rs 0 0 ∙ length-file at bytes;
+      registers = below-set (2 ^ 32) rs 0 0 (omega arith) (file-below at bytes b);
       zero = set-zero rs;
       flags = omega arith;
       area = below-take 256 65536 area d;

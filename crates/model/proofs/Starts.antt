@@ -1,4 +1,4 @@
--- The constructors' values are what all bytes 0 stand for: "The start values are all registers 0 and all flags clear."
+-- The constructors' values are what all bytes 0 stand for: "The start values are all registers 0 and all flags clear." (02, N4: Y, "0 among the start values")
 use mathlib.Core.Path.{_≡_, refl}
 use mathlib.Core.List.{List}
 use Prim.Native.Nat.{ℕ}
@@ -8,9 +8,9 @@ use Rattle.machine.specs.Ends.{endingOf, endingFrom}
 use Rattle.model.specs.Run.{zeroed}
 use Rattle.model.specs.OldState.{startValues, isSet, oldState}
 use Rattle.model.specs.NewState.{newStartValues, newState}
-use Rattle.model.specs.StateBytes.{machineIn, oldIn, newIn}
+use Rattle.model.specs.StateBytes.{oldSize, newSize, fileIn, machineIn, oldIn, newIn}
 
-pub all-zero-starts : (area : List ℕ) → (oldIn (replicate 152 0) area ≡ oldState (startValues .registers) (startValues .control) area)
-    × (newIn (replicate 148 0) area ≡ newState (newStartValues .registers) (newStartValues .control) area)
-unfolding oldIn newIn machineIn zeroed numbersOf upTo numberAt endingFrom endingOf isSet startValues newStartValues
+pub all-zero-starts : (area : List ℕ) → (oldIn (replicate oldSize 0) area ≡ oldState (startValues .registers) (startValues .control) area)
+    × (newIn (replicate newSize 0) area ≡ newState (newStartValues .registers) (newStartValues .control) area)
+unfolding oldIn newIn fileIn machineIn zeroed numbersOf upTo numberAt endingFrom endingOf isSet startValues newStartValues
 all-zero-starts area = (refl, refl)

@@ -17,7 +17,7 @@ use Rattle.words.proofs.Conditions.{conditions-all}
 use Rattle.words.specs.Reader.{bits, format0Of, format2Of, format3Of, byFormat, instructionOf, rows0, rows2, none2, rows3, none3, operandOf}
 use Rattle.words.specs.declared.Operand.{Operand}
 use Rattle.words.specs.declared.Instruction.{Instruction}
-use Rattle.words.specs.declared.Instruction.the-variants.{Illegal, Call, Sethi, Bicc, Arithmetic, Jmpl, Ticc, Load, Store, Shift}
+use Rattle.words.specs.declared.Instruction.the-variants.{Illegal, Call, Sethi, Bicc, Arithmetic, Jmpl, Ticc, Load, Store, Shift, Rdy, Wry}
 use Rattle.machine.specs.Ends.{Ending, ending, go, halt, within}
 use Rattle.machine.specs.Registers.{addressOf}
 use Rattle.machine.specs.Effect.{Machine, effectOf, trapOf}
@@ -62,6 +62,8 @@ trapEnd (Ticc cond rs1 x) m = ending 1 (addressOf (m .registers) rs1 x % 128)
 trapEnd (Load o rd rs1 x) m = ending 0 0
 trapEnd (Store w rd rs1 x) m = ending 0 0
 trapEnd (Shift o rd rs1 x) m = ending 0 0
+trapEnd (Rdy rd) m = ending 0 0
+trapEnd (Wry s) m = ending 0 0
 
 pub trap-halts : (db : ℕ) (i : Instruction) (m : Machine) → transferOf i ≡ trap → effectOf db i m ≡ halt (trapEnd i m)
 unfolding transferOf
@@ -79,6 +81,8 @@ trap-halts db (Ticc cond rs1 x) m e = taken (eqb cond 8) refl e
 trap-halts db (Load o rd rs1 x) m e = apart straight trap (λ q. omega arith) e
 trap-halts db (Store w rd rs1 x) m e = apart straight trap (λ q. omega arith) e
 trap-halts db (Shift o rd rs1 x) m e = apart straight trap (λ q. omega arith) e
+trap-halts db (Rdy rd) m e = apart straight trap (λ q. omega arith) e
+trap-halts db (Wry s) m e = apart straight trap (λ q. omega arith) e
 
 -- a Bicc 0 without annul does nothing
 pub idle-does : (db : ℕ) (i : Instruction) (m : Machine) (disp : ℕ) → transferOf i ≡ bicc 0 false disp → effectOf db i m ≡ go m
@@ -93,6 +97,8 @@ idle-does db (Ticc cond rs1 x) m disp e = no-branch (eqb cond 8) 0 false disp e
 idle-does db (Load o rd rs1 x) m disp e = apart straight (bicc 0 false disp) (λ q. omega arith) e
 idle-does db (Store w rd rs1 x) m disp e = apart straight (bicc 0 false disp) (λ q. omega arith) e
 idle-does db (Shift o rd rs1 x) m disp e = apart straight (bicc 0 false disp) (λ q. omega arith) e
+idle-does db (Rdy rd) m disp e = apart straight (bicc 0 false disp) (λ q. omega arith) e
+idle-does db (Wry s) m disp e = apart straight (bicc 0 false disp) (λ q. omega arith) e
 
 -- a word's condition has four bits
 abbrev small : Instruction → Bool
@@ -106,6 +112,8 @@ small (Ticc cond rs1 x) = true
 small (Load o rd rs1 x) = true
 small (Store w rd rs1 x) = true
 small (Shift o rd rs1 x) = true
+small (Rdy rd) = true
+small (Wry s) = true
 
 four-bits : (word : ℕ) → leb (bits word 25 4) 15 ≡ true
 unfolding bits
@@ -136,6 +144,8 @@ small-branch (Ticc c rs1 x) cond annul disp e h = no-branch (eqb c 8) cond annul
 small-branch (Load o rd rs1 x) cond annul disp e h = apart straight (bicc cond annul disp) (λ q. omega arith) e
 small-branch (Store w rd rs1 x) cond annul disp e h = apart straight (bicc cond annul disp) (λ q. omega arith) e
 small-branch (Shift o rd rs1 x) cond annul disp e h = apart straight (bicc cond annul disp) (λ q. omega arith) e
+small-branch (Rdy rd) cond annul disp e h = apart straight (bicc cond annul disp) (λ q. omega arith) e
+small-branch (Wry s) cond annul disp e h = apart straight (bicc cond annul disp) (λ q. omega arith) e
 
 pub small-condition : (word cond : ℕ) (annul : Bool) (disp : ℕ) → transferOf (instructionOf word) ≡ bicc cond annul disp → leb cond 15 ≡ true
 small-condition word cond annul disp e = small-branch (instructionOf word) cond annul disp e (small-word word)

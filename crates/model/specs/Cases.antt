@@ -1,9 +1,10 @@
 -- 01, Cases: those to be proved, as one table of numbers; case 0 has other readings of 01. What a row shows is computed from the definitions.
-use Prim.Native.Nat.{ℕ, _*_}
+use Prim.Native.Nat.{ℕ, _+_, _*_}
 use mathlib.Core.List.{List, [], _∷_, _++_}
 use lib.ListN.{length, getD, set, replicate}
-use Rattle.numbers.specs.Number.{bytesOf}
+use Rattle.numbers.specs.Number.{bytesOf, upTo}
 use Rattle.machine.specs.Ends.{Ending, ending, Next, State, state, live}
+use Rattle.machine.specs.Registers.{fileSize, yOf}
 use Rattle.machine.specs.Effect.{machine}
 use Rattle.model.specs.Run.{run}
 use Rattle.model.specs.OldCore.{Old, old, oldNext, oldBegun}
@@ -11,7 +12,7 @@ use Rattle.model.specs.Records.{numbersIn}
 use Rattle.model.specs.NewCore.{New, new, newNext}
 use Rattle.model.specs.Translation.{Handed, answerNumbers, translation}
 use Rattle.model.specs.Trails.{Trail, trail, Entry, entry, entries, later, closing}
-use Rattle.model.specs.StateBytes.{newBegins}
+use Rattle.model.specs.StateBytes.{oldSize, newSize, oldBegins, newBegins}
 use Rattle.model.specs.Cores.{Start, oldOver, newOver, oldBegin, newBegin, stepsFor, trailOf, newTrailAt}
 
 -- the case's number, what the definitions give, what 01 says
@@ -27,11 +28,15 @@ over words = oldNext (bytesOf words) 0 0
 
 -- begun at 0 with one register and the flags 8N + 4Z + 2V + C set
 unfoldable pub start : ℕ → ℕ → ℕ → State Old
-start i v flags = oldBegun 0 (machine (set (replicate 32 0) i v) flags [])
+start i v flags = oldBegun 0 (machine (set (replicate fileSize 0) i v) flags [])
 
 -- a register and the flags; the end and the number beside it
 unfoldable pub shown : ℕ → State Old → List ℕ
 shown i (state (old m pc npc annul) e) = getD (m .registers) i 0 ∷ m .flags ∷ []
+
+-- Y, then the same
+unfoldable pub product : ℕ → State Old → List ℕ
+product i (state (old m pc npc annul) e) = yOf (m .registers) ∷ getD (m .registers) i 0 ∷ m .flags ∷ []
 
 unfoldable pub endOf : Ending → List ℕ
 endOf (ending n v) = n ∷ v ∷ []
@@ -44,7 +49,7 @@ newEnded (state s e) = endOf e
 
 -- how the new core stands after the step at record r, of records of three numbers each
 unfoldable pub stepAt : ℕ → List ℕ → List ℕ
-stepAt r records = newEnded (run (newNext (bytesOf records) [] 0 0 0) 1 (live (new (machine (replicate 32 0) 0 []) r 0)))
+stepAt r records = newEnded (run (newNext (bytesOf records) [] 0 0 0) 1 (live (new (machine (replicate fileSize 0) 0 []) r 0)))
 
 -- ---------------------------------------------------------------- translations
 -- the answer's numbers, and the bytes of both buffers
@@ -82,16 +87,31 @@ told t = entriesTold (later t) (entries t) ++ endOf (closing t)
 unfoldable pub begins : ℕ → ℕ → ℕ → Start
 begins a v flags = record { address = a; registers = 0 ∷ v ∷ []; flags = flags; area = [] }
 
+-- the same with Y set in place of register 1
+unfoldable pub beginsWithY : ℕ → ℕ → Start
+beginsWithY a y = record { address = a; registers = set (replicate fileSize 0) 32 y; flags = 0; area = [] }
+
 -- the old core's trail over an image of words at base 0, cut at k entries
+unfoldable pub oldCut : List ℕ → Start → ℕ → Trail
+oldCut words x k = trailOf (oldOver (bytesOf words) 0 0) k (oldBegin x)
+
 unfoldable pub oldTold : List ℕ → Start → ℕ → List ℕ
-oldTold words x k = told (trailOf (oldOver (bytesOf words) 0 0) k (oldBegin x))
+oldTold words x k = told (oldCut words x k)
 
 -- the new core's over its translation for entry 0, which has just so many places and records
-unfoldable pub newTold : ℕ → ℕ → List ℕ → Start → ℕ → List ℕ
-newTold p r words x k =
+unfoldable pub newCut : ℕ → ℕ → List ℕ → Start → ℕ → Trail
+newCut p r words x k =
     let handed = given words (0 ∷ []) (16 * p) (12 * r) in
     let size = length (bytesOf words) in
-    told (newTrailAt (newOver (handed .records) (handed .places) 0 size 0) (stepsFor k) k (x .address) (newBegin (handed .places) 0 size x))
+    newTrailAt (newOver (handed .records) (handed .places) 0 size 0) (stepsFor k) k (x .address) (newBegin (handed .places) 0 size x)
+
+unfoldable pub newTold : ℕ → ℕ → List ℕ → Start → ℕ → List ℕ
+newTold p r words x k = told (newCut p r words x k)
+
+-- what each entry shows of Y
+unfoldable pub yTold : List Entry → List ℕ
+yTold [] = []
+yTold (entry a m ∷ es) = yOf (m .registers) ∷ yTold es
 
 -- ---------------------------------------------------------------- images
 -- ba 12; add 1 to register 1; illegal; ta 0
@@ -173,6 +193,10 @@ slottedRecord word after far = 0x10800006 ∷ word ∷ nop ∷ after ∷ 0x91D02
 -- call 24; nop; what stands at p + 8; a jmpl that holds ba; nop; ta 0
 abbrev pub forbiddenPast : ℕ → List ℕ
 forbiddenPast after = 0x40000006 ∷ nop ∷ after ∷ 0x81C3E008 ∷ 0x10800003 ∷ nop ∷ 0x91D02000 ∷ []
+
+-- umul %g1, %g1, %g2; rd %y, %g1; ta 0
+abbrev pub squares : List ℕ
+squares = 0x84504001 ∷ 0x83400000 ∷ 0x91D02000 ∷ []
 
 abbrev row : ℕ → List ℕ → List ℕ → Row
 row p got want = record { case = p; got = got; want = want }
@@ -270,8 +294,12 @@ cases =
     -- begun at an address without a plain place, "as kind 6 would": an entry there, and 6 inside the image, 2 outside
     ∷ row 0 (newTold 2 4 strays (begins 8 5 0) 9) (0 ∷ 8 ∷ 5 ∷ 6 ∷ 8 ∷ [])
     ∷ row 0 (newTold 2 4 strays (begins 16 5 0) 9) (0 ∷ 16 ∷ 5 ∷ 2 ∷ 16 ∷ [])
-    -- the bytes that such a begin leaves: all registers and flags as they were, record 0, held address 0, end 6 and the address
-    ∷ row 0 (numbersIn (newBegins [] 0 16 8 (bytesOf (replicate 37 7)) .state)) (0 ∷ replicate 31 7 ++ (7 ∷ 0 ∷ 0 ∷ 6 ∷ 8 ∷ []))
+    -- the bytes that such a begin leaves: all registers, flags and Y as they were, record 0, held address 0, end 6 and the address
+    ∷ row 0 (numbersIn (newBegins [] 0 16 8 (bytesOf (upTo (λ i. i + 5) 38)) .state)) (0 ∷ upTo (λ i. i + 6) 31 ++ (5 ∷ 0 ∷ 0 ∷ 6 ∷ 8 ∷ 42 ∷ []))
+    -- and a begin of the old core
+    ∷ row 0 (numbersIn (oldBegins 8 (bytesOf (upTo (λ i. i + 5) 39)))) (0 ∷ upTo (λ i. i + 6) 31 ++ (5 ∷ 8 ∷ 12 ∷ 0 ∷ 0 ∷ 0 ∷ 43 ∷ []))
+    -- and how many bytes a state has, of either core
+    ∷ row 0 (length (oldBegins 8 []) ∷ length (newBegins [] 0 16 8 [] .state) ∷ []) (oldSize ∷ newSize ∷ [])
     -- each refusal, with both buffers: "Every refusal fills both buffers with 0"
     ∷ row 0 (bytesBack (translation [] 0 (bytesOf (0 ∷ [])) 3 5)) (1 ∷ 0 ∷ 0 ∷ replicate 8 0)
     ∷ row 0 (bytesBack (translation (1 ∷ 2 ∷ []) 0 (bytesOf (0 ∷ [])) 3 5)) (1 ∷ 2 ∷ 0 ∷ replicate 8 0)
@@ -391,6 +419,48 @@ cases =
     ∷ row 0 (stepAt 0 (1 ∷ 0x82004022 ∷ 0 ∷ [])) (7 ∷ 0 ∷ [])
     ∷ row 0 (stepAt 0 (3 ∷ 0x81C04002 ∷ 0 ∷ [])) (0 ∷ 0 ∷ [])
     ∷ row 0 (stepAt 0 (3 ∷ 0x81C04022 ∷ 0 ∷ [])) (7 ∷ 0 ∷ [])
+    -- 02, N4: "the high 32 bits go to Y, the low to rd": 0x80000000 squared, unsigned and signed
+    ∷ row 0 (product 2 (run (over (0x84504001 ∷ [])) 1 (start 1 0x80000000 15))) (0x40000000 ∷ 0 ∷ 15 ∷ [])
+    ∷ row 0 (product 2 (run (over (0x84584001 ∷ [])) 1 (start 1 0x80000000 15))) (0x40000000 ∷ 0 ∷ 15 ∷ [])
+    -- 0x80000000 times -1, unsigned and signed
+    ∷ row 0 (product 2 (run (over (0x84507FFF ∷ [])) 1 (start 1 0x80000000 0))) (0x7FFFFFFF ∷ 0x80000000 ∷ 0 ∷ [])
+    ∷ row 0 (product 2 (run (over (0x84587FFF ∷ [])) 1 (start 1 0x80000000 0))) (0 ∷ 0x80000000 ∷ 0 ∷ [])
+    -- rd the same register as rs1 and rs2
+    ∷ row 0 (product 1 (run (over (0x82504001 ∷ [])) 1 (start 1 0xFFFFFFFF 0))) (0xFFFFFFFE ∷ 1 ∷ 0 ∷ [])
+    ∷ row 0 (product 1 (run (over (0x82584001 ∷ [])) 1 (start 1 0xFFFFFFFF 0))) (0 ∷ 1 ∷ 0 ∷ [])
+    -- "the flag forms set N and Z from the low word and clear V and C", Y and flags also where rd is 0
+    ∷ row 0 (product 0 (run (over (0x80D04001 ∷ [])) 1 (start 1 0x80000000 15))) (0x40000000 ∷ 0 ∷ 4 ∷ [])
+    ∷ row 0 (product 0 (run (over (0x80D86001 ∷ [])) 1 (start 1 0x80000000 15))) (0xFFFFFFFF ∷ 0 ∷ 8 ∷ [])
+    ∷ row 0 (product 2 (run (over (0x84D04001 ∷ [])) 1 (start 1 0xFFFFFFFF 15))) (0xFFFFFFFE ∷ 1 ∷ 0 ∷ [])
+    -- "Wry writes rs1 xor operand without delay": the word behind it reads what was written
+    ∷ row 0 (product 1 (run (over (0x81806005 ∷ 0x83400000 ∷ [])) 2 (start 1 6 15))) (3 ∷ 3 ∷ 15 ∷ [])
+    ∷ row 0 (product 1 (run (over (0x81804001 ∷ [])) 1 (start 1 6 15))) (0 ∷ 6 ∷ 15 ∷ [])
+    -- "no end changes it": ta 0 behind such a word
+    ∷ row 0 (product 1 (run (over (0x81806005 ∷ 0x91D02000 ∷ [])) 9 (start 1 6 15))) (3 ∷ 6 ∷ 15 ∷ [])
+    -- "Rdy with rs1 not 0 and wry with rd not 0 are illegal, as is rdy with any of bits 13 to 0 set"
+    ∷ row 0 (ended (run (over (0x83400000 ∷ [])) 1 (start 1 0 0))) (0 ∷ 0 ∷ [])
+    ∷ row 0 (ended (run (over (0x83404000 ∷ [])) 1 (start 1 0 0))) (3 ∷ 0 ∷ [])
+    ∷ row 0 (ended (run (over (0x83440000 ∷ [])) 1 (start 1 0 0))) (3 ∷ 0 ∷ [])
+    ∷ row 0 (ended (run (over (0x83402000 ∷ [])) 1 (start 1 0 0))) (3 ∷ 0 ∷ [])
+    ∷ row 0 (ended (run (over (0x83400020 ∷ [])) 1 (start 1 0 0))) (3 ∷ 0 ∷ [])
+    ∷ row 0 (ended (run (over (0x83400001 ∷ [])) 1 (start 1 0 0))) (3 ∷ 0 ∷ [])
+    ∷ row 0 (ended (run (over (0x83806005 ∷ [])) 1 (start 1 0 0))) (3 ∷ 0 ∷ [])
+    ∷ row 0 (ended (run (over (0xA1806005 ∷ [])) 1 (start 1 0 0))) (3 ∷ 0 ∷ [])
+    -- and N2's unused bits: bits 12 to 5 of a wry and of a product with a register
+    ∷ row 0 (ended (run (over (0x81804021 ∷ [])) 1 (start 1 0 0))) (3 ∷ 0 ∷ [])
+    ∷ row 0 (ended (run (over (0x84505001 ∷ [])) 1 (start 1 0 0))) (3 ∷ 0 ∷ [])
+    -- "The new core does these words as kind 1", and not one with such a bit
+    ∷ row 0 (stepAt 0 (1 ∷ 0x84504001 ∷ 0 ∷ [])) (0 ∷ 0 ∷ [])
+    ∷ row 0 (stepAt 0 (1 ∷ 0x83400000 ∷ 0 ∷ [])) (0 ∷ 0 ∷ [])
+    ∷ row 0 (stepAt 0 (1 ∷ 0x83404000 ∷ 0 ∷ [])) (7 ∷ 0 ∷ [])
+    ∷ row 0 (stepAt 0 (1 ∷ 0x83806005 ∷ 0 ∷ [])) (7 ∷ 0 ∷ [])
+    -- "The state and each trail entry gain Y .. demand 3 takes any Y", on both cores
+    ∷ row 0 (oldTold squares (begins 0 0x10001 0) 9) (0 ∷ 0 ∷ 0x10001 ∷ 1 ∷ 4 ∷ 0x10001 ∷ 1 ∷ 8 ∷ 1 ∷ 1 ∷ 0 ∷ [])
+    ∷ row 0 (newTold 3 5 squares (begins 0 0x10001 0) 9) (0 ∷ 0 ∷ 0x10001 ∷ 2 ∷ 4 ∷ 0x10001 ∷ 2 ∷ 8 ∷ 1 ∷ 1 ∷ 0 ∷ [])
+    ∷ row 0 (yTold (entries (oldCut squares (begins 0 0x10001 0) 9))) (0 ∷ 1 ∷ 1 ∷ [])
+    ∷ row 0 (yTold (entries (newCut 3 5 squares (begins 0 0x10001 0) 9))) (0 ∷ 1 ∷ 1 ∷ [])
+    ∷ row 0 (yTold (entries (oldCut (0x83400000 ∷ 0x91D02000 ∷ []) (beginsWithY 0 7) 9))) (7 ∷ 7 ∷ [])
+    ∷ row 0 (newTold 2 3 (0x83400000 ∷ 0x91D02000 ∷ []) (beginsWithY 0 7) 9) (0 ∷ 0 ∷ 0 ∷ 2 ∷ 4 ∷ 7 ∷ 1 ∷ 0 ∷ [])
     ∷ []
 
 pub noCase : Row

@@ -1,5 +1,5 @@
 -- Both cores with what 01 feeds each and nothing else, their starts, and the marks of their trails.
-use Prim.Native.Nat.{ℕ, zero, suc, _+_, _*_}
+use Prim.Native.Nat.{ℕ, zero, suc, _+_, _-_, _*_}
 use mathlib.Core.Bool.{true, false}
 use mathlib.Core.List.{List, [], _∷_}
 use mathlib.Core.Option.{Option, none, some}
@@ -8,6 +8,7 @@ use lib.ListN.{getD, getElem?}
 use Rattle.numbers.specs.Choice.{pick}
 use Rattle.numbers.specs.Number.{upTo}
 use Rattle.machine.specs.Ends.{ending, State, state}
+use Rattle.machine.specs.Registers.{fileSize}
 use Rattle.machine.specs.Effect.{Machine, machine}
 use Rattle.model.specs.Run.{dataOf}
 use Rattle.model.specs.OldCore.{Old, old, oldNext, oldBegun}
@@ -15,9 +16,10 @@ use Rattle.model.specs.Records.{Rec, doWord, link, hold, goIf, goTo, goH
 use Rattle.model.specs.NewCore.{New, new, newNext, newBegun}
 use Rattle.model.specs.Trails.{Core, Trail, landing, trail}
 
--- what an entry shows: "Register 0 reads and shows as 0", registers 1 to 31, the flags, and the data, of which there are at most 65,536 bytes
+-- what an entry shows: "Register 0 reads and shows as 0", registers 1 to 31, the flags, and the data, of which there are at most 65,536 bytes.
+-- 02, N4: "The state and each trail entry gain Y", which stands behind the registers
 unfoldable pub shownOf : Machine → Machine
-shownOf m = machine (0 ∷ upTo (λ i. getD (m .registers) (i + 1) 0) 31) (m .flags) (dataOf (m .area))
+shownOf m = machine (0 ∷ upTo (λ i. getD (m .registers) (i + 1) 0) (fileSize - 1)) (m .flags) (dataOf (m .area))
 
 -- "The old core's trail has an entry before each step in which annul is clear and the run has not ended, addresses outside the image included."
 unfoldable pub oldMark : Old → Option ℕ
@@ -63,7 +65,7 @@ abbrev pub newOver : List ℕ → List ℕ → ℕ → ℕ → ℕ → Core New
 newOver records places base size db =
     record { next = newNext records places base size db; mark = newMark places; shown = newShown; byHeld = newByHeld records }
 
--- where a run begins, and with "any registers, flags and data"
+-- where a run begins, and with "any registers, flags and data". 02, N4: "demand 3 takes any Y", behind the registers
 pub record Start : Type 0 where
   pub address : ℕ
   pub registers : List ℕ

@@ -9,6 +9,7 @@ use mathlib.Core.Option.{some}
 use lib.ListN.{length, take, getD}
 use Rattle.numbers.specs.Number.{Below}
 use Rattle.machine.specs.Ends.{ending, State, state, live}
+use Rattle.machine.specs.Registers.{fileSize, yOf}
 use Rattle.machine.specs.Effect.{machine}
 use Rattle.model.specs.declared.Answer.the-variants.{Accepted}
 use Rattle.model.specs.Run.{run}
@@ -23,16 +24,18 @@ use Rattle.model.specs.Cores.{Start, oldOver, newOver, oldBegin, newBegi
 abbrev pub Placed : List ℕ → ℕ → List ℕ → ℕ → Type 0
 Placed image base entryList a = Makes image base (numbersIn entryList) (plain a)
 
--- "An entry is the address about to be executed, all registers, flags and data bytes": the first, after 0 steps, is the start itself
+-- "An entry is the address about to be executed, all registers, flags and data bytes"; 02, N4: "The state and each trail entry gain Y": the first,
+-- after 0 steps, is the start itself
 pub record Begins (x : Start) (t : Trail) : Type 0 where
   pub registers : List ℕ
   pub flags : ℕ
   pub area : List ℕ
   pub rest : Trail
   pub first : t ≡ at 0 (x .address) (machine registers flags area) rest
-  pub thirty-two : length registers ≡ 32
+  pub whole : length registers ≡ fileSize
   pub register-0 : getD registers 0 0 ≡ 0
   pub others : (i : ℕ) → 1 ≤ i → i < 32 → getD registers i 0 ≡ getD (x .registers) i 0
+  pub same-y : yOf registers ≡ yOf (x .registers)
   pub same-flags : flags ≡ x .flags
   pub same-bytes : area ≡ take 65536 (x .area)
 
@@ -92,7 +95,7 @@ Demand3 =
     → Below 256 image → Below 256 entryList
     → (handed : Handed) → handed ≡ translation image base entryList placesLength recordsLength
     → handed .answer ≡ Accepted placeCount recordCount
-    -- "for each core, any address with a plain place to begin at and any registers, flags and data"
+    -- "for each core, any address with a plain place to begin at and any registers, flags and data"; 02, N4: "demand 3 takes any Y"
     → (x y : Start) → Placed image base entryList (x .address) → Placed image base entryList (y .address)
     -- "one data base; and any number of entries, at least one, at which both trails are cut"
     → (db k : ℕ) → 1 ≤ k

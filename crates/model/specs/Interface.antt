@@ -9,7 +9,7 @@ use mathlib.Core.Option.{Option, none, some}
 use lib.Dec.{eqb}
 use lib.ListN.{getElem?, length, take}
 use Rattle.numbers.specs.Choice.{pick}
-use Rattle.numbers.specs.Number.{Below, numberAt, numbersOf}
+use Rattle.numbers.specs.Number.{Below, numberAt}
 use Rattle.machine.specs.Ends.{Ending, ending, Next, go, halt, State, state, live}
 use Rattle.machine.specs.Effect.{Machine, machine}
 use Rattle.model.specs.Run.{dataOf}
@@ -19,7 +19,7 @@ use Rattle.model.specs.Translation.{back, returned, translation}
 use Rattle.model.specs.Trails.{Core}
 use Rattle.model.specs.Cores.{naming, goesBy, Start}
 use Rattle.model.specs.Demand3.{Placed, Holds}
-use Rattle.model.specs.StateBytes.{After, oldBegins, oldRuns, newBegins, newRuns}
+use Rattle.model.specs.StateBytes.{After, fileIn, oldBehind, newBehind, oldBegins, oldRuns, newBegins, newRuns}
 
 -- what a loader holds of a core: the bytes of its state, and its data area
 pub record Bytes : Type 0 where
@@ -37,9 +37,9 @@ answered (ending (suc n) v) b = halt (ending (suc n) v)
 unfoldable pub called : After → Next Bytes
 called x = answered (x .ended) (bytes (x .state) (x .area))
 
--- an entry's registers, flags and data: numbers 0 to 32 of the state, and the data
-unfoldable pub bytesShown : Bytes → Machine
-bytesShown b = machine (numbersOf (b .state) 32) (numberAt (b .state) 128) (dataOf (b .area))
+-- an entry's registers and Y, flags and data: numbers 0 to 32 of the state, what is from its byte `behind` on, and the data
+unfoldable pub bytesShown : ℕ → Bytes → Machine
+bytesShown behind b = machine (fileIn behind (b .state)) (numberAt (b .state) 128) (dataOf (b .area))
 
 -- the old core: PC is number 33 and annul number 35
 unfoldable pub oldBytesMark : Bytes → Option ℕ
@@ -47,7 +47,7 @@ oldBytesMark b = pick (eqb (numberAt (b .state) 140) 0) (some (numberAt (b .stat
 
 abbrev pub oldCalls : List ℕ → ℕ → ℕ → Core Bytes
 oldCalls image base db =
-    record { next = λ b. called (oldRuns image base db 1 (b .state) (b .area)); mark = oldBytesMark; shown = bytesShown; byHeld = λ b. none }
+    record { next = λ b. called (oldRuns image base db 1 (b .state) (b .area)); mark = oldBytesMark; shown = bytesShown oldBehind; byHeld = λ b. none }
 
 -- the new core: the record number is number 33, the held address number 34
 unfoldable pub newBytesMark : List ℕ → Bytes → Option ℕ
@@ -61,11 +61,11 @@ newCalls records places base size db =
     record {
       next = λ b. called (newRuns records places base size db 1 (b .state) (b .area));
       mark = newBytesMark places;
-      shown = bytesShown;
+      shown = bytesShown newBehind;
       byHeld = newBytesByHeld records;
     }
 
--- begun at an address: begin keeps registers and flags; the data area is lent to the runs alone
+-- begun at an address: begin keeps registers, Y and flags; the data area is lent to the runs alone
 abbrev pub oldStarted : ℕ → Bytes → State Bytes
 oldStarted a b = live (bytes (oldBegins a (b .state)) (b .area))
 
@@ -75,8 +75,8 @@ newStarted places base size a b =
     state (bytes (x .state) (b .area)) (x .ended)
 
 -- the start that bytes are
-abbrev pub startOf : ℕ → Bytes → Start
-startOf a b = record { address = a; registers = numbersOf (b .state) 32; flags = numberAt (b .state) 128 % 16; area = b .area }
+abbrev pub startOf : ℕ → ℕ → Bytes → Start
+startOf behind a b = record { address = a; registers = fileIn behind (b .state); flags = numberAt (b .state) 128 % 16; area = b .area }
 
 -- the begins and runs are those that the contracts of `pijorrel_old_begin`, `pijorrel_old_run`, `pijorrel_new_begin`, `pijorrel_new_run` cite
 unfoldable pub Interface : Type 0
@@ -91,6 +91,6 @@ Interface =
     → (db k : ℕ) → 1 ≤ k
     -- just the places and records counted
     → (places records : List ℕ) → places ≡ take (16 * placeCount) table → records ≡ take (12 * recordCount) list
-    → Holds (Placed image base entryList) (inImage base (length image)) k (startOf a b) (startOf a′ b′)
+    → Holds (Placed image base entryList) (inImage base (length image)) k (startOf oldBehind a b) (startOf newBehind a′ b′)
     (oldCalls image base db) (oldStarted a b)
     (newCalls records places base (length image) db) (newStarted places base (length image) a′ b′)

@@ -16,7 +16,7 @@ use Rattle.model.specs.OldCore.{inImage, Transfer, illegal, straight, tr
 use Rattle.model.specs.Places.{mayBeHeld}
 use Rattle.model.specs.Records.{Rec, doWord, link, hold, goIf, goTo, goHeld, stop, unknown, Row, row, rowsIn, recordsIn}
 
--- registers, flags and data; "A source address and a record number are two counters": the record number, the held address
+-- registers, Y, flags and data; "A source address and a record number are two counters": the record number, the held address
 pub data New : Type 0 where
   new : Machine → ℕ → ℕ → New
 
@@ -24,7 +24,8 @@ pub data New : Type 0 where
 unfoldable pub following : ℕ → ℕ → Machine → New
 following r h m = new m (plus r 1) h
 
--- kind 1: "7 .. with an unfit word (kind 1: illegal, call, jmpl or any Bicc but 0 without annul ..)", with the record number
+-- kind 1: "7 .. with an unfit word (kind 1: illegal, call, jmpl or any Bicc but 0 without annul ..)", with the record number.
+-- 02, N4: "The new core does these words as kind 1": products, rdy and wry are straight
 unfoldable pub fit : Transfer → Bool
 fit illegal = false
 fit straight = true

@@ -4,15 +4,16 @@ use lib.ListN.{replicate}
 use Prim.Native.Nat.{ℕ}
 use Rattle.machine.specs.declared.End.the-variants.{Going}
 use Rattle.machine.specs.Ends.{State, left}
+use Rattle.machine.specs.Registers.{fileSize}
 use Rattle.model.specs.declared.NewControl.{NewControl}
 use Rattle.model.specs.declared.NewCore.{NewCore}
 use Rattle.model.specs.NewCore.{New, new}
 
--- "The start values are all registers 0 and all flags clear."
+-- "The start values are all registers 0 and all flags clear." 02, N4: "The state and each trail entry gain Y, 0 among the start values"
 unfoldable pub newStartValues : NewCore
 newStartValues =
     record {
-      registers = replicate 32 0;
+      registers = replicate fileSize 0;
       control = record { flags = record { nzvc = 0 }; at = record { 0 = 0 }; held = record { 0 = 0 }; end = Going };
     }
 

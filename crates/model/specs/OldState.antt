@@ -6,15 +6,16 @@ use lib.Dec.{eqb}
 use lib.ListN.{replicate}
 use Rattle.machine.specs.declared.End.the-variants.{Going}
 use Rattle.machine.specs.Ends.{State, left}
+use Rattle.machine.specs.Registers.{fileSize}
 use Rattle.model.specs.declared.OldControl.{OldControl}
 use Rattle.model.specs.declared.OldCore.{OldCore}
 use Rattle.model.specs.OldCore.{Old, old}
 
--- "The start values are all registers 0 and all flags clear."
+-- "The start values are all registers 0 and all flags clear." 02, N4: "The state and each trail entry gain Y, 0 among the start values"
 unfoldable pub startValues : OldCore
 startValues =
     record {
-      registers = replicate 32 0;
+      registers = replicate fileSize 0;
       control =
           record {
             flags = record { nzvc = 0 };

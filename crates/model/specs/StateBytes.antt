@@ -1,38 +1,61 @@
 -- States as bytes, numbers big-endian: how a loader in C holds them.
-use Prim.Native.Nat.{ℕ, _%_}
+use Prim.Native.Nat.{ℕ, _+_, _-_, _*_, _%_}
 use mathlib.Core.List.{List, [], _∷_, _++_}
 use mathlib.Core.Path.{_≡_}
+use lib.ListN.{take, drop}
 use Rattle.numbers.specs.Number.{Below, numberAt, numbersOf, bytesOf}
 use Rattle.words.specs.Conditions.{bitOf}
 use Rattle.machine.specs.Ends.{Ending, ending, endingFrom, State, state}
-use Rattle.machine.specs.Registers.{registerOf}
+use Rattle.machine.specs.Registers.{fileSize, registerOf}
 use Rattle.machine.specs.Effect.{Machine, machine}
 use Rattle.model.specs.OldCore.{Old, old, oldNext, oldBegun}
 use Rattle.model.specs.NewCore.{New, new, newNext, newBegun}
 use Rattle.model.specs.Run.{run, zeroed, dataOf, beyond}
 use Rattle.model.specs.OldState.{isSet}
 
--- numbers 0 to 31 are the registers, number 32 the flags, of which the low four bits count
-unfoldable pub machineIn : List ℕ → List ℕ → Machine
-machineIn bytes area = machine (zeroed (numbersOf bytes 32)) (numberAt bytes 128 % 16) area
+-- numbers 0 to 31 are the registers. 02, N4: "The state and each trail entry gain Y": what the file has behind the registers stands at the
+-- end of a state, from a byte that is each core's own
+unfoldable pub fileIn : ℕ → List ℕ → List ℕ
+fileIn behind bytes = numbersOf bytes 32 ++ numbersOf (drop behind bytes) (fileSize - 32)
+
+abbrev pub oldBehind : ℕ
+oldBehind = 152
+
+abbrev pub newBehind : ℕ
+newBehind = 148
+
+-- the bytes of a whole state
+abbrev pub oldSize : ℕ
+oldSize = oldBehind + 4 * (fileSize - 32)
+
+abbrev pub newSize : ℕ
+newSize = newBehind + 4 * (fileSize - 32)
+
+-- number 32 is the flags, of which the low four bits count
+unfoldable pub machineIn : ℕ → List ℕ → List ℕ → Machine
+machineIn behind bytes area = machine (zeroed (fileIn behind bytes)) (numberAt bytes 128 % 16) area
+
+-- a machine's numbers, those that a core has beside them between its flags and what the file has behind the registers
+abbrev pub stateNumbers : Machine → List ℕ → List ℕ
+stateNumbers m between = take 32 (m .registers) ++ (m .flags ∷ (between ++ drop 32 (m .registers)))
 
 -- the old core: PC, nPC, annul, end and the number beside it follow
 unfoldable pub oldIn : List ℕ → List ℕ → State Old
 oldIn bytes area =
-    state (old (machineIn bytes area) (numberAt bytes 132) (numberAt bytes 136) (isSet (numberAt bytes 140)))
+    state (old (machineIn oldBehind bytes area) (numberAt bytes 132) (numberAt bytes 136) (isSet (numberAt bytes 140)))
     (endingFrom (numberAt bytes 144) (numberAt bytes 148))
 
 -- the bytes of a state: what is in them but the data
 unfoldable pub oldBytes : State Old → List ℕ
-oldBytes (state (old m pc npc annul) (ending n v)) = bytesOf (m .registers ++ (m .flags ∷ pc ∷ npc ∷ bitOf annul ∷ n ∷ v ∷ []))
+oldBytes (state (old m pc npc annul) (ending n v)) = bytesOf (stateNumbers m (pc ∷ npc ∷ bitOf annul ∷ n ∷ v ∷ []))
 
 -- the new core: record number, held address, end and the number beside it follow
 unfoldable pub newIn : List ℕ → List ℕ → State New
 newIn bytes area =
-    state (new (machineIn bytes area) (numberAt bytes 132) (numberAt bytes 136)) (endingFrom (numberAt bytes 140) (numberAt bytes 144))
+    state (new (machineIn newBehind bytes area) (numberAt bytes 132) (numberAt bytes 136)) (endingFrom (numberAt bytes 140) (numberAt bytes 144))
 
 unfoldable pub newBytes : State New → List ℕ
-newBytes (state (new m r h) (ending n v)) = bytesOf (m .registers ++ (m .flags ∷ r ∷ h ∷ n ∷ v ∷ []))
+newBytes (state (new m r h) (ending n v)) = bytesOf (stateNumbers m (r ∷ h ∷ n ∷ v ∷ []))
 
 -- what a call answers, and leaves in the state and in the lent area
 pub record After : Type 0 where
@@ -53,13 +76,13 @@ newAfter (state (new m r h) e) rest = record { ended = e; state = newBytes (stat
 
 -- what the exported functions leave: of a begin, and of a run of a given count over a lent area
 unfoldable pub oldBegins : ℕ → List ℕ → List ℕ
-oldBegins pc bytes = oldBytes (oldBegun pc (machineIn bytes []))
+oldBegins pc bytes = oldBytes (oldBegun pc (machineIn oldBehind bytes []))
 
 unfoldable pub oldRuns : List ℕ → ℕ → ℕ → ℕ → List ℕ → List ℕ → After
 oldRuns image base db count bytes area = oldAfter (run (oldNext image base db) count (oldIn bytes (dataOf area))) (beyond area)
 
 unfoldable pub newBegins : List ℕ → ℕ → ℕ → ℕ → List ℕ → After
-newBegins places base size a bytes = newAfter (newBegun places base size a (machineIn bytes [])) []
+newBegins places base size a bytes = newAfter (newBegun places base size a (machineIn newBehind bytes [])) []
 
 unfoldable pub newRuns : List ℕ → List ℕ → ℕ → ℕ → ℕ → ℕ → List ℕ → List ℕ → After
 newRuns records places base size db count bytes area =

@@ -15,8 +15,8 @@ use Rattle.machine.specs.Ends.{Ending, ending, Next, State, state, live}
 use Rattle.machine.specs.Effect.{Machine}
 use Rattle.model.specs.Run.{step, run}
 
--- next: what a step does. mark: the address of the entry that stands before the step, if one does. shown: the registers, flags and
--- data of that entry. byHeld: the held address that the step goes by, if it does. An end met by such a step is that of a landing without a
+-- next: what a step does. mark: the address of the entry that stands before the step, if one does. shown: the registers, Y, flags
+-- and data of that entry. byHeld: the held address that the step goes by, if it does. An end met by such a step is that of a landing without a
 -- place, whose entry the trail gains; the step itself only ends, and shows nothing of where it would have gone.
 pub record Core (S : Type 0) : Type 0 where
   pub next : S → Next S
@@ -24,7 +24,8 @@ pub record Core (S : Type 0) : Type 0 where
   pub shown : S → Machine
   pub byHeld : S → Option ℕ
 
--- at: the steps since the entry before, "the address about to be executed, all registers, flags and data bytes", and what follows.
+-- at: the steps since the entry before, "the address about to be executed, all registers, flags and data bytes" (02, N4: "and each trail entry
+-- gain Y"), and what follows.
 -- shut: "how the run ended, with its number, closes the trail". cut: entry k + 1 would come here. spent: the given count of steps is done.
 pub data Trail : Type 0 where
   cut spent : Trail
@@ -58,7 +59,7 @@ module _ {S : Type 0} where
   trail c (suc count) k gap x =
       look c (λ s. turn (trail c count) k gap (c .mark s) (c .shown s) (step (c .next) (live s))) k gap x
 
--- an entry: "the address about to be executed, all registers, flags and data bytes"
+-- an entry: "the address about to be executed, all registers, flags and data bytes"; 02, N4: "and each trail entry gain Y"
 pub data Entry : Type 0 where
   entry : ℕ → Machine → Entry
 

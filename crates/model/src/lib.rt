@@ -1,6 +1,12 @@
 // The states of the cores. specs/ has document 01 as definitions, in 01's order.
 ghost use mathlib.Core.Path.{_≡_};
+ghost use Prim.Native.Nat.{_+_, _*_, _-_, _≤_};
+ghost use mathlib.Core.List.{_++_};
+ghost use lib.ListN.{length, take, drop};
+ghost use Rattle.numbers.specs.Number.{bytesOf};
+ghost use Rattle.machine.specs.Registers.{fileSize};
 ghost use Rattle.model.specs.OldCore.{target};
+ghost use Rattle.model.specs.StateBytes.{fileIn};
 ghost use Rattle.model.specs.OldState.{startValues};
 ghost use Rattle.model.specs.NewState.{newStartValues};
 use machine::End;
@@ -8,6 +14,8 @@ use machine::Flags;
 use machine::SourcePc;
 use machine::TargetPc;
 use machine::further;
+use machine::registers::FILE;
+use machine::registers::File;
 
 // Where a displacement, which counts words, leads from an address.
 pub fn target(p: SourcePc, disp: u32) -> SourcePc
@@ -28,12 +36,12 @@ pub struct OldControl {
 
 // The old core's state.
 pub struct OldCore {
-    pub registers: [u32; 32],
+    pub registers: File,
     pub control: OldControl,
 }
 
 impl OldCore {
-    // The start values: all registers 0, all flags clear.
+    // The start values: all registers and Y 0, all flags clear.
     pub fn new() -> Self
         ensures { λ r. ⌜ r ≡ startValues ⌝ }
     {
@@ -46,7 +54,7 @@ impl OldCore {
             end: End::Going,
         };
         OldCore {
-            registers: [0u32; 32],
+            registers: [0u32; FILE],
             control: c,
         }
     }
@@ -62,12 +70,12 @@ pub struct NewControl {
 
 // The new core's state.
 pub struct NewCore {
-    pub registers: [u32; 32],
+    pub registers: File,
     pub control: NewControl,
 }
 
 impl NewCore {
-    // The start values: all registers 0, all flags clear.
+    // The start values: all registers and Y 0, all flags clear.
     pub fn new() -> Self
         ensures { λ r. ⌜ r ≡ newStartValues ⌝ }
     {
@@ -79,7 +87,7 @@ impl NewCore {
             end: End::Going,
         };
         NewCore {
-            registers: [0u32; 32],
+            registers: [0u32; FILE],
             control: c,
         }
     }
@@ -104,4 +112,34 @@ pub enum Answer {
     NoRoom(u32),
     // the records needed
     RecordsShort(u32),
+}
+
+// The byte of each core's state from which on stands what the file has behind the registers, and how many bytes a state has.
+pub const OLD_BEHIND: usize = 152;
+
+pub const OLD_STATE: usize = 156;
+
+pub const NEW_BEHIND: usize = 148;
+
+pub const NEW_STATE: usize = 152;
+
+// The register file in a state's bytes: numbers 0 to 31, and behind them those from a position.
+pub fn file_in(bytes: &[u8], behind: usize) -> File
+    requires { ⌜ (128 ≤ behind) × (behind + 4 * (fileSize - 32) ≤ length (now bytes)) ⌝ }
+    ensures { λ r. ⌜ r ≡ fileIn behind (now (bytes .entry)) ⌝ }
+{
+    let mut regs = [0u32; FILE];
+    numbers::read_numbers(bytes, &mut regs[..32]);
+    numbers::read_numbers(&bytes[behind..], &mut regs[32..]);
+    regs
+}
+
+// Fills a state's bytes: the registers, the flags and a core's own numbers, and what the file has behind the registers.
+pub fn put_state(bytes: &mut [u8], regs: File, rest: &[u32])
+    requires { ⌜ length (now bytes) ≡ 128 + 4 * length (now rest) + 4 * (fileSize - 32) ⌝ }
+    ensures { λ _. ⌜ now (bytes .exit) ≡ bytesOf (take 32 regs ++ (now (rest .entry) ++ drop 32 regs)) ⌝ }
+{
+    numbers::write_numbers(bytes, 0, &regs[..32]);
+    numbers::write_numbers(bytes, 128, rest);
+    numbers::write_numbers(bytes, 128 + 4 * rest.len(), &regs[32..]);
 }

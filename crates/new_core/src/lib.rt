@@ -21,6 +21,7 @@ use machine::Flags;
 use machine::SourcePc;
 use machine::TargetPc;
 use machine::effect::perform;
+use machine::registers::File;
 use machine::registers::address;
 use machine::registers::put;
 use model::NewControl;
@@ -80,13 +81,7 @@ fn bad(c: NewControl) -> NewControl
 
 // A word that does not transfer control, then the next record, or the end. Its effect is done in here and not handed over: so the compiler
 // sees where each word goes on, and tests no end of a word that has none.
-fn do_effect(
-    i: Instruction,
-    db: u32,
-    regs: &mut [u32; 32],
-    c: NewControl,
-    area: &mut [u8],
-) -> NewControl
+fn do_effect(i: Instruction, db: u32, regs: &mut File, c: NewControl, area: &mut [u8]) -> NewControl
     ensures { λ r. ⌜ newState (now (regs .exit)) r (now (area .exit)) ≡ settle (newOf (now (regs .entry)) c (now (area .entry))) (within (following (c .at .0) (c .held .0)) (effectOf db i (machine (now (regs .entry)) (c .flags .nzvc) (now (area .entry))))) ⌝ }
 {
     let f = c.flags;
@@ -113,13 +108,7 @@ fn do_branch(c: NewControl, cond: u32, annul: bool) -> NewControl
 }
 
 // Kind 1: do the word.
-fn do_word(
-    i: Instruction,
-    db: u32,
-    regs: &mut [u32; 32],
-    c: NewControl,
-    area: &mut [u8],
-) -> NewControl
+fn do_word(i: Instruction, db: u32, regs: &mut File, c: NewControl, area: &mut [u8]) -> NewControl
     ensures { λ r. ⌜ newState (now (regs .exit)) r (now (area .exit)) ≡ settle (newOf (now (regs .entry)) c (now (area .entry))) (pick (fit (transferOf i)) (within (following (c .at .0) (c .held .0)) (effectOf db i (machine (now (regs .entry)) (c .flags .nzvc) (now (area .entry))))) (halt (ending 7 (c .at .0)))) ⌝ }
 {
     match i {
@@ -132,7 +121,7 @@ fn do_word(
 }
 
 // Kind 2: register 15 := first.
-fn link(first: SourcePc, regs: &mut [u32; 32], c: NewControl) -> NewControl
+fn link(first: SourcePc, regs: &mut File, c: NewControl) -> NewControl
     ensures { λ r. ⌜ ((a : List ℕ) → newState (now (regs .exit)) r a ≡ live (following (c .at .0) (c .held .0) (machine (putRegister (now (regs .entry)) 15 (first .0)) (c .flags .nzvc) a))) ⌝ }
 {
     let f = c.flags;
@@ -141,7 +130,7 @@ fn link(first: SourcePc, regs: &mut [u32; 32], c: NewControl) -> NewControl
 }
 
 // Kind 3: hold where the jmpl leads. The address is taken from the registers before rd is written.
-fn hold(i: Instruction, source: SourcePc, regs: &mut [u32; 32], c: NewControl) -> NewControl
+fn hold(i: Instruction, source: SourcePc, regs: &mut File, c: NewControl) -> NewControl
     ensures { λ r. ⌜ ((a : List ℕ) → newState (now (regs .exit)) r a ≡ settle (newOf (now (regs .entry)) c a) (holds (transferOf i) (source .0) (machine (now (regs .entry)) (c .flags .nzvc) a) (c .at .0))) ⌝ }
 {
     let f = c.flags;
@@ -253,7 +242,7 @@ fn obey(
     base: u32,
     size: u32,
     db: u32,
-    regs: &mut [u32; 32],
+    regs: &mut File,
     c: NewControl,
     area: &mut [u8],
 ) -> NewControl
@@ -287,7 +276,7 @@ fn proceed(
     base: u32,
     size: u32,
     db: u32,
-    regs: &mut [u32; 32],
+    regs: &mut File,
     c: NewControl,
     area: &mut [u8],
 ) -> NewControl
@@ -308,7 +297,7 @@ fn steps(
     base: u32,
     size: u32,
     db: u32,
-    regs: &mut [u32; 32],
+    regs: &mut File,
     c: NewControl,
     area: &mut [u8],
     count: u16,
@@ -340,7 +329,7 @@ fn begun(f: Flags, to: TargetPc, e: End) -> NewControl
     }
 }
 
-// At the first record of the address's lowest-numbered plain place, or ended where there is none; registers and flags stay.
+// At the first record of the address's lowest-numbered plain place, or ended where there is none; registers, Y and flags stay.
 pub fn begin(places: &[u8], base: u32, size: u32, core: NewCore, a: SourcePc) -> NewCore
     ensures { λ r. ⌜ ((area : List ℕ) → newState (r .registers) (r .control) area ≡ newBegun (now (places .entry)) base size (a .0) (machine (zeroed (core .registers)) (core .control .flags .nzvc) area)) ⌝ }
 {
@@ -359,36 +348,31 @@ pub fn begin(places: &[u8], base: u32, size: u32, core: NewCore, a: SourcePc) ->
     }
 }
 
-// count records, or fewer where the run ends.
+// count records, or fewer where the run ends. The file is lent, so that nothing copies it.
 pub fn run(
     records: &[u8],
     places: &[u8],
     base: u32,
     size: u32,
     db: u32,
-    core: NewCore,
+    regs: &mut File,
+    c: NewControl,
     area: &mut [u8],
     count: u16,
-) -> NewCore
-    ensures { λ r. ⌜ lent (newState (r .registers) (r .control) (dataOf (now (area .exit)))) (beyond (now (area .exit))) ≡ lent (run (newNext (now (records .entry)) (now (places .entry)) base size db) count (newState (zeroed (core .registers)) (core .control) (dataOf (now (area .entry))))) (beyond (now (area .entry))) ⌝ }
+) -> NewControl
+    ensures { λ r. ⌜ lent (newState (now (regs .exit)) r (dataOf (now (area .exit)))) (beyond (now (area .exit))) ≡ lent (run (newNext (now (records .entry)) (now (places .entry)) base size db) count (newState (zeroed (now (regs .entry))) c (dataOf (now (area .entry))))) (beyond (now (area .entry))) ⌝ }
 {
-    let c = core.control;
-    let mut regs = core.registers;
     regs[0] = 0;
     let n = machine::data_area::data_length(area.len());
-    let k = steps(
+    steps(
         records,
         places,
         base,
         size,
         db,
-        &mut regs,
+        regs,
         c,
         &mut area[..n],
         count,
-    );
-    NewCore {
-        registers: regs,
-        control: k,
-    }
+    )
 }

@@ -3,7 +3,7 @@ use Prim.Native.Nat.{ℕ, zero, suc, _+_, _-_, _/_, _%_, _^_, _≤_, _<_}
 use mathlib.Core.List.{List, [], _∷_, _++_}
 use native.Mathlib.Omega.{arith}
 use lib.Dec.{ltb}
-use lib.ListN.{getD, set, take}
+use lib.ListN.{getD, set, take, drop}
 use Rattle.numbers.specs.Number.{Below, plus, minus, signed, numberAt, putNumber, upTo, bytesOf}
 use Rattle.numbers.proofs.Choice.{either}
 
@@ -25,6 +25,11 @@ pub below-take : (n k : ℕ) (l : List ℕ) → Below n l → Below n (take k l)
 below-take n zero l b = tt
 below-take n (suc k) [] b = tt
 below-take n (suc k) (x ∷ xs) b = (b .0, below-take n k xs (b .1))
+
+pub below-drop : (n k : ℕ) (l : List ℕ) → Below n l → Below n (drop k l)
+below-drop n zero l b = b
+below-drop n (suc k) [] b = tt
+below-drop n (suc k) (x ∷ xs) b = below-drop n k xs (b .1)
 
 pub below-up : (n : ℕ) (f : ℕ → ℕ) (k : ℕ) → ((i : ℕ) → f i < n) → Below n (upTo f k)
 unfolding upTo

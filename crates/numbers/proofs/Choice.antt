@@ -1,7 +1,7 @@
 -- Laws of choice by a test and by a key.
 use Prim.Native.Nat.{ℕ}
 use mathlib.Core.Path.{_≡_, refl, sym}
-use mathlib.Core.Bool.{Bool, true, false, false≢true}
+use mathlib.Core.Bool.{Bool, true, false, _&&_, false≢true}
 use mathlib.Core.List.{List, [], _∷_}
 use lib.Dec.{eqb}
 use borrow.Author.Tests.{ne-eqb, eqb-true}
@@ -11,6 +11,11 @@ use Rattle.numbers.specs.Choice.{pick, find}
 pub by-test : {A : Type 0} (t : Bool) (r a b : A) → (t ≡ true → r ≡ a) → (t ≡ false → r ≡ b) → r ≡ pick t a b
 by-test true r a b f g = f refl
 by-test false r a b f g = g refl
+
+-- of two tests that pass, each does
+pub both : (a b : Bool) → a && b ≡ true → (a ≡ true) × (b ≡ true)
+both true b e = (refl, e)
+both false b e = absurd (false≢true e)
 
 -- tests that pass together are one
 pub same-test : (s t : Bool) → (s ≡ true → t ≡ true) → (t ≡ true → s ≡ true) → s ≡ t

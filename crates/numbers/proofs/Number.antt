@@ -1,13 +1,13 @@
 -- Laws of numbers modulo 2^32, of signs, and of numbers in lists of bytes.
 use Prim.Native.Nat.{ℕ, zero, suc, _+_, _*_, _/_, _%_, _-_, _^_, _≤_, _<_}
 use mathlib.Core.Path.{_≡_, refl, ap, _∙_, sym}
-use mathlib.Core.List.{List, [], _∷_, _++_, append-nil}
+use mathlib.Core.List.{List, [], _∷_, _++_, append-nil, append-assoc}
 use native.Mathlib.Omega.{arith}
 use native.Mathlib.Nat.{add-zero, sub-zero, mod-eq-of-lt, mod-eq-sub-mod}
 use native.Mathlib.Numerals.{add-one}
-use lib.Seq.{paste, paste-suc, drop-nil, drop-cons, take-suc-set, take-at}
+use lib.Seq.{paste, paste-suc, drop-nil, drop-cons, take-suc-set, take-at, drop-at, drop-drop}
 use lib.Dec.{ltb}
-use lib.ListN.{length, set, take, drop, replicate, length-set, drop-of-length-le, getD, length-append, length-drop}
+use lib.ListN.{length, set, take, drop, replicate, length-set, drop-of-length-le, getD, length-append, List·getD-append}
 use lib.Pow.{shr-shr}
 use borrow.Author.Fill.{fill-more}
 use borrow.Author.Tests.{ltb-true, ltb-false}
@@ -15,6 +15,7 @@ use Rattle.numbers.specs.Choice.{pick}
 use Rattle.numbers.specs.Number.{Below, minus, putNumber, zeroFrom, numberAt, numbersOf, bytesOf, upTo}
 use Rattle.numbers.proofs.Choice.{by-test}
 use Rattle.numbers.proofs.Bounds.{below-get}
+use Rattle.numbers.proofs.Lists.{length-up, up-list}
 
 -- the lowest byte of a sum, and the rest
 lowest : (a q : ℕ) → a < 256 → (a + q * 256) % 256 ≡ a
@@ -170,14 +171,37 @@ unfolding bytesOf
 bytes-append [] ws = refl
 bytes-append (v ∷ vs) ws = rw (bytes-append vs ws)
 
--- two lists of numbers written one behind the other, over an area that they fill
-pub fill-two : (s s1 s2 vs ws : List ℕ) (n : ℕ) → n ≡ 4 * length vs → length s ≡ n + 4 * length ws
-    → s1 ≡ take 0 s ++ bytesOf vs ++ drop (0 + 4 * length vs) s → s2 ≡ take n s1 ++ bytesOf ws ++ drop (n + 4 * length ws) s1
-    → s2 ≡ bytesOf (vs ++ ws)
-fill-two s s1 s2 vs ws n e l p q =
+-- lists of numbers written one behind the other: ws comes behind vs, and of what was there the rest stays
+pub fill-next : (s s′ vs ws t : List ℕ) (n : ℕ) → n ≡ 4 * length vs → s ≡ bytesOf vs ++ t
+    → s′ ≡ take n s ++ bytesOf ws ++ drop (n + 4 * length ws) s → s′ ≡ bytesOf (vs ++ ws) ++ drop (4 * length ws) t
+fill-next s s′ vs ws t n e p q =
     let b : length (bytesOf vs) ≡ n = length-bytes vs ∙ sym e in
-    let z : 0 + 4 * length vs ≡ n = omega arith in
-    let r : s1 ≡ bytesOf vs ++ drop n s = p ∙ rw z in
-    let d : drop (n + 4 * length ws) s1 ≡ [] = drop-of-length-le s1 {i = n + 4 * length ws} (rw r (simp (length-append, length-drop, b) (omega arith))) in
-    let t : take n s1 ≡ bytesOf vs = rw r (take-at (bytesOf vs) (drop n s) n b) in
-    q ∙ rw (d, t, append-nil, bytes-append vs ws)
+    q
+    ∙ rw (
+      p,
+      take-at (bytesOf vs) t n b,
+      ← drop-drop (4 * length ws) n (bytesOf vs ++ t),
+      drop-at (bytesOf vs) t n b,
+      bytes-append vs ws,
+      append-assoc (bytesOf vs) (bytesOf ws) (drop (4 * length ws) t),
+    )
+
+-- the bytes past a number are those of the numbers past it
+pub drop-bytes : (k : ℕ) (vs : List ℕ) → drop (4 * k) (bytesOf vs) ≡ bytesOf (drop k vs)
+unfolding bytesOf
+drop-bytes zero vs = refl
+drop-bytes (suc k) [] = drop-nil (4 * suc k)
+drop-bytes (suc k) (v ∷ vs) =
+    let e : 4 * suc k ≡ suc (suc (suc (suc (4 * k)))) = omega arith in
+    rw e (drop-bytes k vs)
+
+-- the first numbers come back from the bytes
+pub numbers-front : (vs ws : List ℕ) → Below (2 ^ 32) (vs ++ ws) → numbersOf (bytesOf (vs ++ ws)) (length vs) ≡ vs
+unfolding numbersOf
+numbers-front vs ws b =
+    up-list 0 (λ i. numberAt (bytesOf (vs ++ ws)) (4 * i)) vs
+    (λ i h. number-packed (vs ++ ws) i (4 * i) b (omega (arith, length-append vs ws)) refl ∙ List·getD-append vs ws 0 i h)
+
+pub length-numbers : (bytes : List ℕ) (n : ℕ) → length (numbersOf bytes n) ≡ n
+unfolding numbersOf
+length-numbers bytes n = length-up (λ i. numberAt bytes (4 * i)) n

@@ -18,6 +18,7 @@ use machine::effect::Effect;
 use machine::effect::holds;
 use machine::effect::perform;
 use machine::further;
+use machine::registers::File;
 use machine::registers::address;
 use machine::registers::put;
 use model::OldControl;
@@ -81,7 +82,7 @@ fn branch(c: OldControl, cond: u32, annul: bool, disp: u32) -> OldControl
 }
 
 // The address is taken from the registers before rd is written.
-fn jump(c: OldControl, regs: &mut [u32; 32], rd: u32, rs1: u32, x: Operand) -> OldControl
+fn jump(c: OldControl, regs: &mut File, rd: u32, rs1: u32, x: Operand) -> OldControl
     ensures { λ r. ⌜ ((a : List ℕ) → oldState (now (regs .exit)) r a ≡ settle (oldOf (now (regs .entry)) c a) (jumps (addressOf (now (regs .entry)) rs1 x) rd (machine (now (regs .entry)) (c .flags .nzvc) a) (c .pc .0) (c .npc .0))) ⌝ }
 {
     let f = c.flags;
@@ -106,13 +107,7 @@ fn finish(c: OldControl, e: Effect) -> OldControl
     stop(c, g)
 }
 
-fn execute(
-    i: Instruction,
-    db: u32,
-    regs: &mut [u32; 32],
-    c: OldControl,
-    area: &mut [u8],
-) -> OldControl
+fn execute(i: Instruction, db: u32, regs: &mut File, c: OldControl, area: &mut [u8]) -> OldControl
     ensures { λ r. ⌜ oldState (now (regs .exit)) r (now (area .exit)) ≡ settle (oldOf (now (regs .entry)) c (now (area .entry))) (executes db (transferOf i) i (machine (now (regs .entry)) (c .flags .nzvc) (now (area .entry))) (c .pc .0) (c .npc .0)) ⌝ }
 {
     let f = c.flags;
@@ -134,7 +129,7 @@ fn fetch(
     image: &[u8],
     base: u32,
     db: u32,
-    regs: &mut [u32; 32],
+    regs: &mut File,
     c: OldControl,
     area: &mut [u8],
 ) -> OldControl
@@ -157,7 +152,7 @@ fn pass(
     image: &[u8],
     base: u32,
     db: u32,
-    regs: &mut [u32; 32],
+    regs: &mut File,
     c: OldControl,
     area: &mut [u8],
 ) -> OldControl
@@ -175,7 +170,7 @@ fn steps(
     image: &[u8],
     base: u32,
     db: u32,
-    regs: &mut [u32; 32],
+    regs: &mut File,
     c: OldControl,
     area: &mut [u8],
     count: u16,
@@ -195,7 +190,7 @@ fn steps(
     s
 }
 
-// PC at the address, nPC 4 further, annul clear, not ended; registers and flags stay.
+// PC at the address, nPC 4 further, annul clear, not ended; registers, Y and flags stay.
 pub fn begin(core: OldCore, pc: SourcePc) -> OldCore
     ensures { λ r. ⌜ ((a : List ℕ) → oldState (r .registers) (r .control) a ≡ oldBegun (pc .0) (machine (zeroed (core .registers)) (core .control .flags .nzvc) a)) ⌝ }
 {
@@ -217,17 +212,19 @@ pub fn begin(core: OldCore, pc: SourcePc) -> OldCore
     }
 }
 
-// count steps, or fewer where the run ends.
-pub fn run(image: &[u8], base: u32, db: u32, core: OldCore, area: &mut [u8], count: u16) -> OldCore
-    ensures { λ r. ⌜ lent (oldState (r .registers) (r .control) (dataOf (now (area .exit)))) (beyond (now (area .exit))) ≡ lent (run (oldNext (now (image .entry)) base db) count (oldState (zeroed (core .registers)) (core .control) (dataOf (now (area .entry))))) (beyond (now (area .entry))) ⌝ }
+// count steps, or fewer where the run ends. The file is lent, so that nothing copies it.
+pub fn run(
+    image: &[u8],
+    base: u32,
+    db: u32,
+    regs: &mut File,
+    c: OldControl,
+    area: &mut [u8],
+    count: u16,
+) -> OldControl
+    ensures { λ r. ⌜ lent (oldState (now (regs .exit)) r (dataOf (now (area .exit)))) (beyond (now (area .exit))) ≡ lent (run (oldNext (now (image .entry)) base db) count (oldState (zeroed (now (regs .entry))) c (dataOf (now (area .entry))))) (beyond (now (area .entry))) ⌝ }
 {
-    let c = core.control;
-    let mut regs = core.registers;
     regs[0] = 0;
     let n = machine::data_area::data_length(area.len());
-    let k = steps(image, base, db, &mut regs, c, &mut area[..n], count);
-    OldCore {
-        registers: regs,
-        control: k,
-    }
+    steps(image, base, db, regs, c, &mut area[..n], count)
 }

@@ -10,15 +10,16 @@ use machine::Ended;
 use machine::Flags;
 use machine::SourcePc;
 use machine::TargetPc;
+use model::NEW_BEHIND;
+use model::NEW_STATE;
 use model::NewControl;
 use model::NewCore;
 
-// The state that 148 bytes stand for.
-fn decode(state: &[u8; 148]) -> NewCore
+// The state that bytes stand for.
+fn decode(state: &[u8; NEW_STATE]) -> NewCore
     ensures { λ r. ⌜ ((a : List ℕ) → newState (zeroed (r .registers)) (r .control) a ≡ newIn (now (state .entry)) a) ⌝ }
 {
-    let mut regs = [0u32; 32];
-    numbers::read_numbers(state, &mut regs);
+    let regs = model::file_in(state, NEW_BEHIND);
     let nzvc = numbers::read_number(state, 128) % 16;
     let k = TargetPc(numbers::read_number(state, 132));
     let h = SourcePc(numbers::read_number(state, 136));
@@ -40,7 +41,7 @@ fn decode(state: &[u8; 148]) -> NewCore
 }
 
 // The bytes of a state, and how it ended.
-fn encode(core: NewCore, state: &mut [u8; 148]) -> Ended
+fn encode(core: NewCore, state: &mut [u8; NEW_STATE]) -> Ended
     ensures { λ r. ⌜ (ending (r .end) (r .number) ≡ endingOf (core .control .end)) × ((a : List ℕ) → now (state .exit) ≡ newBytes (newState (core .registers) (core .control) a)) ⌝ }
 {
     let regs = core.registers;
@@ -51,19 +52,18 @@ fn encode(core: NewCore, state: &mut [u8; 148]) -> Ended
     let e = c.end;
     let r = machine::numbers_of(e);
     let rest = [f.nzvc, k.0, h.0, r.end, r.number];
-    numbers::write_numbers(state, 0, &regs);
-    numbers::write_numbers(state, 128, &rest);
+    model::put_state(state, regs, &rest);
     r
 }
 
-// Begins at an address: registers and flags stay.
+// Begins at an address: registers, Y and flags stay.
 #[no_mangle]
 pub extern "C" fn pijorrel_new_begin(
     places: &[u8],
     base: u32,
     size: u32,
     a: u32,
-    state: &mut [u8; 148],
+    state: &mut [u8; NEW_STATE],
 ) -> Ended
     ensures { λ r. ⌜ after (r .end) (r .number) (now (state .exit)) [] ≡ newBegins (now (places .entry)) base size a (now (state .entry)) ⌝ }
 {
@@ -79,12 +79,25 @@ pub extern "C" fn pijorrel_new_run(
     base: u32,
     size: u32,
     db: u32,
-    state: &mut [u8; 148],
+    state: &mut [u8; NEW_STATE],
     area: &mut [u8],
     count: u16,
 ) -> Ended
     ensures { λ r. ⌜ after (r .end) (r .number) (now (state .exit)) (now (area .exit)) ≡ newRuns (now (records .entry)) (now (places .entry)) base size db count (now (state .entry)) (now (area .entry)) ⌝ }
 {
-    let core = new_core::run(records, places, base, size, db, decode(state), area, count);
+    let mut core = decode(state);
+    let c = core.control;
+    let k = new_core::run(
+        records,
+        places,
+        base,
+        size,
+        db,
+        &mut core.registers,
+        c,
+        area,
+        count,
+    );
+    core.control = k;
     encode(core, state)
 }

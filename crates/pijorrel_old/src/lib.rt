@@ -9,15 +9,16 @@ ghost use Rattle.model.specs.StateBytes.{oldIn, oldBytes, after, oldBegins, old
 use machine::Ended;
 use machine::Flags;
 use machine::SourcePc;
+use model::OLD_BEHIND;
+use model::OLD_STATE;
 use model::OldControl;
 use model::OldCore;
 
-// The state that 152 bytes stand for.
-fn decode(state: &[u8; 152]) -> OldCore
+// The state that bytes stand for.
+fn decode(state: &[u8; OLD_STATE]) -> OldCore
     ensures { λ r. ⌜ ((a : List ℕ) → oldState (zeroed (r .registers)) (r .control) a ≡ oldIn (now (state .entry)) a) ⌝ }
 {
-    let mut regs = [0u32; 32];
-    numbers::read_numbers(state, &mut regs);
+    let regs = model::file_in(state, OLD_BEHIND);
     let nzvc = numbers::read_number(state, 128) % 16;
     let p = SourcePc(numbers::read_number(state, 132));
     let n = SourcePc(numbers::read_number(state, 136));
@@ -41,7 +42,7 @@ fn decode(state: &[u8; 152]) -> OldCore
 }
 
 // The bytes of a state, and how it ended.
-fn encode(core: OldCore, state: &mut [u8; 152]) -> Ended
+fn encode(core: OldCore, state: &mut [u8; OLD_STATE]) -> Ended
     ensures { λ r. ⌜ (ending (r .end) (r .number) ≡ endingOf (core .control .end)) × ((a : List ℕ) → now (state .exit) ≡ oldBytes (oldState (core .registers) (core .control) a)) ⌝ }
 {
     let regs = core.registers;
@@ -53,14 +54,13 @@ fn encode(core: OldCore, state: &mut [u8; 152]) -> Ended
     let r = machine::numbers_of(e);
     let annul = machine::bit(c.annul != 0);
     let rest = [f.nzvc, p.0, n.0, annul, r.end, r.number];
-    numbers::write_numbers(state, 0, &regs);
-    numbers::write_numbers(state, 128, &rest);
+    model::put_state(state, regs, &rest);
     r
 }
 
-// Begins at an address: registers and flags stay.
+// Begins at an address: registers, Y and flags stay.
 #[no_mangle]
-pub extern "C" fn pijorrel_old_begin(pc: u32, state: &mut [u8; 152])
+pub extern "C" fn pijorrel_old_begin(pc: u32, state: &mut [u8; OLD_STATE])
     ensures { λ _. ⌜ now (state .exit) ≡ oldBegins pc (now (state .entry)) ⌝ }
 {
     let core = old_core::begin(decode(state), SourcePc(pc));
@@ -73,12 +73,15 @@ pub extern "C" fn pijorrel_old_run(
     image: &[u8],
     base: u32,
     db: u32,
-    state: &mut [u8; 152],
+    state: &mut [u8; OLD_STATE],
     area: &mut [u8],
     count: u16,
 ) -> Ended
     ensures { λ r. ⌜ after (r .end) (r .number) (now (state .exit)) (now (area .exit)) ≡ oldRuns (now (image .entry)) base db count (now (state .entry)) (now (area .entry)) ⌝ }
 {
-    let core = old_core::run(image, base, db, decode(state), area, count);
+    let mut core = decode(state);
+    let c = core.control;
+    let k = old_core::run(image, base, db, &mut core.registers, c, area, count);
+    core.control = k;
     encode(core, state)
 }

@@ -1,25 +1,25 @@
 -- The round trips on bytes, from those of instructions.
 use Prim.Native.Nat.{ℕ, zero, suc, _+_, _*_, _/_, _%_, _^_, _<_, _≤_}
 use mathlib.Core.Path.{_≡_, refl, ap, _∙_}
-use mathlib.Core.Bool.{Bool, true, false, not, _&&_, false≢true}
+use mathlib.Core.Bool.{Bool, true, false, not, _&&_}
 use mathlib.Core.List.{List, [], _∷_}
 use native.Mathlib.Nat.{mod-eq-of-lt, pow-le-pow-right}
 use native.Mathlib.Omega.{arith}
-use lib.Dec.{eqb, ltb}
+use lib.Dec.{eqb, leb, ltb}
 use lib.ListN.{getD}
-use borrow.Author.Tests.{lt-ltb, ltb-true, le-leb, ne-eqb, eqb-true}
+use borrow.Author.Tests.{lt-ltb, ltb-true, leb-true, ne-eqb, eqb-true, not-true}
 use Rattle.numbers.specs.Choice.{pick}
 use Rattle.numbers.specs.Number.{Below, signed, numberAt, bytesOf}
-use Rattle.numbers.proofs.Choice.{either, found-passes, found-all}
+use Rattle.numbers.proofs.Choice.{both, either, found-passes, found-all}
 use Rattle.numbers.proofs.Number.{number-packed}
 use Rattle.numbers.proofs.Bounds.{number-lt, extended-lt}
 use Rattle.words.specs.Conditions.{bitOf}
-use Rattle.words.specs.Reader.{bits, bitSet, operandOf, rows0, format0Of, Format2, rows2, none2, format2Of, Format3, rows3, none3, format3Of, byFormat, instructionOf}
+use Rattle.words.specs.Reader.{bits, bitSet, operandOf, sources, rows0, format0Of, Format2, rows2, none2, format2Of, Format3, rows3, none3, format3Of, byFormat, instructionOf}
 use Rattle.words.specs.Writer.{arithmeticOp3, shiftOp3, loadOp3, storeOp3, writtenOf}
 use Rattle.words.specs.declared.Operand.{Operand}
 use Rattle.words.specs.declared.Operand.the-variants.{Register, Constant}
 use Rattle.words.specs.declared.Operation.{Operation}
-use Rattle.words.specs.declared.Operation.the-variants.{Add, And, Or, Xor, Sub, Andn, Orn, Xnor, Addx, Subx}
+use Rattle.words.specs.declared.Operation.the-variants.{Add, And, Or, Xor, Sub, Andn, Orn, Xnor, Addx, Subx, Umul, Smul}
 use Rattle.words.specs.declared.ShiftOperation.{ShiftOperation}
 use Rattle.words.specs.declared.ShiftOperation.the-variants.{Sll, Srl, Sra}
 use Rattle.words.specs.declared.LoadOperation.{LoadOperation}
@@ -27,60 +27,69 @@ use Rattle.words.specs.declared.LoadOperation.the-variants.{Ld, Ldub, Lduh, Lds
 use Rattle.words.specs.declared.Width.{Width}
 use Rattle.words.specs.declared.Width.the-variants.{Byte, Half, Word}
 use Rattle.words.specs.declared.Instruction.{Instruction}
-use Rattle.words.specs.declared.Instruction.the-variants.{Illegal, Call, Sethi, Bicc, Arithmetic, Jmpl, Ticc, Load, Store, Shift}
+use Rattle.words.specs.declared.Instruction.the-variants.{Illegal, Call, Sethi, Bicc, Arithmetic, Jmpl, Ticc, Load, Store, Shift, Rdy, Wry}
 use Rattle.words.specs.declared.Written.{Written}
 use Rattle.words.specs.declared.Written.the-variants.{Fit, Unfit}
 use Rattle.words.proofs.Strict.{left-strictly}
 use Rattle.words.proofs.RoundTrip.{in-bits, reads-back, writes-again}
 use Rattle.pijorrel_words.specs.Forms.{withOperand, sixOf, operandFrom, byOp, forms, instructionFrom, answerOf, writes, reads}
-use Rattle.pijorrel_words.specs.RoundTrip.{counted, normalOf, normal, ReadsBack, WritesAgain}
+use Rattle.pijorrel_words.specs.RoundTrip.{counted, hasOperand, normalOf, normal, ReadsBack, WritesAgain}
 
 -- ---- six numbers that are written
 
--- the second operand of a form that has one
-operand-normal : (form annul rd rs1 mark v : ℕ) → 128 ≤ form → v < 2 ^ 32 → withOperand form rd rs1 (operandFrom mark v) ≡ normalOf form annul rd rs1 mark v
-unfolding withOperand operandFrom normalOf counted bitOf
+-- the second operand of a form that has one; a wry has no rd
+operand-normal : (form annul rd rs1 mark v : ℕ) → hasOperand form ≡ true → v < 2 ^ 32
+    → withOperand form (pick (eqb form 176) 0 rd) rs1 (operandFrom mark v) ≡ normalOf form annul rd rs1 mark v
+unfolding withOperand operandFrom normalOf hasOperand counted bitOf
 operand-normal form annul rd rs1 mark v h l =
-    rw (ne-eqb form 2 (λ e. omega arith), ne-eqb form 64 (λ e. omega arith), le-leb 128 form h) (go (eqb mark 0))
+    let p = both (leb 128 form) (not (eqb form 168)) h in
+    let f : 128 ≤ form = leb-true 128 form (p .0) in
+    rw (ne-eqb form 2 (λ e. omega arith), ne-eqb form 64 (λ e. omega arith), p .0, not-true (eqb form 168) (p .1)) (go (eqb mark 0))
   where
-    go : (b : Bool) → withOperand form rd rs1 (pick b (Register v) (Constant v)) ≡ form ∷ 0 ∷ rd ∷ rs1 ∷ bitOf (not b) ∷ v ∷ []
+    go : (b : Bool) → withOperand form (pick (eqb form 176) 0 rd) rs1 (pick b (Register v) (Constant v)) ≡ form ∷ 0 ∷ pick (eqb form 176) 0 rd ∷ rs1 ∷ bitOf (not b) ∷ v ∷ []
     go true = rw (mod-eq-of-lt l)
     go false = refl
+
+rdy-normal : (form annul rd rs1 mark v : ℕ) → form ≡ 168 → 168 ∷ 0 ∷ rd ∷ 0 ∷ 0 ∷ 0 ∷ [] ≡ normalOf form annul rd rs1 mark v
+unfolding normalOf hasOperand
+rdy-normal form annul rd rs1 mark v e = rw e
 
 module _ (form annul rd rs1 mark v : ℕ) (l : v < 2 ^ 32) where
   abbrev Normal : Instruction → Type 0
   Normal i = (i ≡ Illegal → ⊥) → sixOf i ≡ normalOf form annul rd rs1 mark v
 
-  row : {B : Type 0} (n key : ℕ) → form ≡ n * 64 + form % 64 → 2 ≤ n → form % 64 ≡ key → B
-      → withOperand (n * 64 + key) rd rs1 (operandFrom mark v) ≡ normalOf form annul rd rs1 mark v
+  row : {B : Type 0} (n key : ℕ) → form ≡ n * 64 + form % 64 → hasOperand (n * 64 + key) ≡ true → form % 64 ≡ key → B
+      → withOperand (n * 64 + key) (pick (eqb (n * 64 + key) 176) 0 rd) rs1 (operandFrom mark v) ≡ normalOf form annul rd rs1 mark v
   row n key e h f b =
       let g : n * 64 + key ≡ form = omega arith in
-      rw g (operand-normal form annul rd rs1 mark v (omega arith) l)
+      rw g (operand-normal form annul rd rs1 mark v (rw g at h) l)
 
   by-op : (a b : Bool) → eqb (form / 64) 2 ≡ a → eqb (form / 64) 3 ≡ b
       → Normal (pick a (format2Of (form % 64) rd rd rs1 (operandFrom mark v)) (pick b (format3Of (form % 64) rd rs1 (operandFrom mark v)) Illegal))
-  unfolding format2Of format3Of sixOf arithmeticOp3 shiftOp3 loadOp3 storeOp3
+  unfolding format2Of format3Of sixOf arithmeticOp3 shiftOp3 loadOp3 storeOp3 hasOperand
   by-op true b p q =
       let h : form / 64 ≡ 2 = eqb-true (form / 64) 2 p in
       let e : form ≡ 2 * 64 + form % 64 = omega arith in
       found-all (λ (key : ℕ) (f : Format2). form % 64 ≡ key → Normal (f rd rd rs1 (operandFrom mark v))) rows2 none2 (form % 64)
-      (r e 0, (r e 1, (r e 2, (r e 3, (r e 4, (r e 5, (r e 6, (r e 7, (r e 8, (r e 12, (r e 16, (r e 17, (r e 18, (r e 19, (r e 20, (r e 21, (r e 22, (r e 23, (r e 24, (r e 28, (r e 37, (r e 38, (r e 39, (r e 56, (r e 58, tt)))))))))))))))))))))))))
+      (r e 0 refl, (r e 1 refl, (r e 2 refl, (r e 3 refl, (r e 4 refl, (r e 5 refl, (r e 6 refl, (r e 7 refl, (r e 8 refl, (r e 10 refl, (r e 11 refl, (r e 12 refl, (r e 16 refl, (r e 17 refl, (r e 18 refl, (r e 19 refl, (r e 20 refl, (r e 21 refl, (r e 22 refl, (r e 23 refl, (r e 24 refl, (r e 26 refl, (r e 27 refl, (r e 28 refl, (r e 37 refl, (r e 38 refl, (r e 39 refl, (λ f n. rdy-normal form annul rd rs1 mark v (omega arith), (r e 48 refl, (r e 56 refl, (r e 58 refl, tt)))))))))))))))))))))))))))))))
       (λ f n. absurd (n refl)) refl
     where
-      r : {B : Type 0} → form ≡ 2 * 64 + form % 64 → (key : ℕ) → form % 64 ≡ key → B → withOperand (2 * 64 + key) rd rs1 (operandFrom mark v) ≡ normalOf form annul rd rs1 mark v
-      r e key f b = row 2 key e (omega arith) f b
+      r : {B : Type 0} → form ≡ 2 * 64 + form % 64 → (key : ℕ) → hasOperand (2 * 64 + key) ≡ true → form % 64 ≡ key → B
+          → withOperand (2 * 64 + key) (pick (eqb (2 * 64 + key) 176) 0 rd) rs1 (operandFrom mark v) ≡ normalOf form annul rd rs1 mark v
+      r e key h f b = row 2 key e h f b
   by-op false true p q =
       let h : form / 64 ≡ 3 = eqb-true (form / 64) 3 q in
       let e : form ≡ 3 * 64 + form % 64 = omega arith in
       found-all (λ (key : ℕ) (f : Format3). form % 64 ≡ key → Normal (f rd rs1 (operandFrom mark v))) rows3 none3 (form % 64)
-      (r e 0, (r e 1, (r e 2, (r e 4, (r e 5, (r e 6, (r e 9, (r e 10, tt)))))))) (λ f n. absurd (n refl)) refl
+      (r e 0 refl, (r e 1 refl, (r e 2 refl, (r e 4 refl, (r e 5 refl, (r e 6 refl, (r e 9 refl, (r e 10 refl, tt)))))))) (λ f n. absurd (n refl)) refl
     where
-      r : {B : Type 0} → form ≡ 3 * 64 + form % 64 → (key : ℕ) → form % 64 ≡ key → B → withOperand (3 * 64 + key) rd rs1 (operandFrom mark v) ≡ normalOf form annul rd rs1 mark v
-      r e key f b = row 3 key e (omega arith) f b
+      r : {B : Type 0} → form ≡ 3 * 64 + form % 64 → (key : ℕ) → hasOperand (3 * 64 + key) ≡ true → form % 64 ≡ key → B
+          → withOperand (3 * 64 + key) (pick (eqb (3 * 64 + key) 176) 0 rd) rs1 (operandFrom mark v) ≡ normalOf form annul rd rs1 mark v
+      r e key h f b = row 3 key e h f b
   by-op false false p q = λ n. absurd (n refl)
 
   six-normal : Normal (instructionFrom form annul rd rs1 mark v)
-  unfolding instructionFrom byOp sixOf normalOf counted
+  unfolding instructionFrom byOp sixOf normalOf hasOperand counted
   six-normal =
       found-all (λ (key : ℕ) (i : Instruction). form ≡ key → Normal i) (forms annul rd v) (byOp form rd rs1 (operandFrom mark v)) form
       (λ e n. rw e, (λ e n. rw e, (λ e n. rw e, tt)))
@@ -124,6 +133,8 @@ shortAll (Ticc cond rs1 x) = short cond && (short rs1 && shortOperand x)
 shortAll (Load o rd rs1 x) = short rd && (short rs1 && shortOperand x)
 shortAll (Store w rd rs1 x) = short rd && (short rs1 && shortOperand x)
 shortAll (Shift o rd rs1 x) = short rd && (short rs1 && shortOperand x)
+shortAll (Rdy rd) = short rd
+shortAll (Wry s) = short (s .rs1) && shortOperand (s .operand)
 
 -- a field that was cut, and one whose sign was extended
 cut-short : (word low n : ℕ) → n ≤ 32 → short (bits word low n) ≡ true
@@ -157,10 +168,6 @@ format-short (suc (suc (suc n))) word =
 word-short : (word : ℕ) → shortAll (instructionOf word) ≡ true
 unfolding instructionOf
 word-short word = left-strictly (λ (i : Instruction). shortAll i ≡ true) word _ refl (format-short (bits word 30 2) word)
-
-both : (a b : Bool) → a && b ≡ true → (a ≡ true) × (b ≡ true)
-both true b e = (refl, e)
-both false b e = absurd (false≢true e)
 
 below : (v : ℕ) → short v ≡ true → v < 2 ^ 32
 below v e = ltb-true v (2 ^ 32) e
@@ -205,6 +212,10 @@ arithmetic-from Addx true rd rs1 = (omega arith, λ mark v. refl)
 arithmetic-from Addx false rd rs1 = (omega arith, λ mark v. refl)
 arithmetic-from Subx true rd rs1 = (omega arith, λ mark v. refl)
 arithmetic-from Subx false rd rs1 = (omega arith, λ mark v. refl)
+arithmetic-from Umul true rd rs1 = (omega arith, λ mark v. refl)
+arithmetic-from Umul false rd rs1 = (omega arith, λ mark v. refl)
+arithmetic-from Smul true rd rs1 = (omega arith, λ mark v. refl)
+arithmetic-from Smul false rd rs1 = (omega arith, λ mark v. refl)
 
 shift-from : (o : ShiftOperation) (rd rs1 : ℕ) → From (128 + shiftOp3 o) rd rs1 (Shift o rd rs1)
 unfolding shiftOp3 instructionFrom byOp format2Of
@@ -233,6 +244,14 @@ jmpl-from rd rs1 = (omega arith, λ mark v. refl)
 trap-from : (cond rs1 : ℕ) → From 186 cond rs1 (Ticc cond rs1)
 unfolding instructionFrom byOp format2Of
 trap-from cond rs1 = (omega arith, λ mark v. refl)
+
+wry-from : (rs1 : ℕ) → From 176 0 rs1 (λ x. Wry (sources rs1 x))
+unfolding instructionFrom byOp format2Of
+wry-from rs1 = (omega arith, λ mark v. refl)
+
+rdy-from : (rd : ℕ) → instructionFrom 168 0 rd 0 0 0 ≡ Rdy rd
+unfolding instructionFrom byOp format2Of
+rdy-from rd = refl
 
 operand-again : (f : Operand → Instruction) (form rd rs1 : ℕ) (x : Operand) → From form rd rs1 f → sixOf (f x) ≡ withOperand form rd rs1 x
     → short rd && (short rs1 && shortOperand x) ≡ true → writes (bytesOf (sixOf (f x))) ≡ answerOf (writtenOf (f x))
@@ -284,6 +303,10 @@ each-again (Ticc cond rs1 x) n h = operand-again (Ticc cond rs1) _ cond rs1 x (t
 each-again (Load o rd rs1 x) n h = operand-again (Load o rd rs1) _ rd rs1 x (load-from o rd rs1) refl h
 each-again (Store w rd rs1 x) n h = operand-again (Store w rd rs1) _ rd rs1 x (store-from w rd rs1) refl h
 each-again (Shift o rd rs1 x) n h = operand-again (Shift o rd rs1) _ rd rs1 x (shift-from o rd rs1) refl h
+each-again (Rdy rd) n h =
+    six-again (Rdy rd) 168 0 rd 0 0 0
+    (record { same = refl; low = (omega arith, (omega arith, (below rd h, (omega arith, (omega arith, (omega arith, tt)))))); back = rdy-from rd })
+each-again (Wry s) n h = operand-again (λ x. Wry (sources (s .rs1) x)) _ 0 (s .rs1) (s .operand) (wry-from (s .rs1)) refl h
 
 -- a form that is not 0 is an instruction's
 known : (i : Instruction) → (numberAt (bytesOf (sixOf i)) 0 ≡ 0 → ⊥) → i ≡ Illegal → ⊥

@@ -13,7 +13,7 @@ use Rattle.words.specs.Writer.{arithmeticOp3, shiftOp3, loadOp3, storeOp3, writ
 use Rattle.words.specs.declared.Operand.{Operand}
 use Rattle.words.specs.declared.Operand.the-variants.{Register, Constant}
 use Rattle.words.specs.declared.Instruction.{Instruction}
-use Rattle.words.specs.declared.Instruction.the-variants.{Illegal, Call, Sethi, Bicc, Arithmetic, Jmpl, Ticc, Load, Store, Shift}
+use Rattle.words.specs.declared.Instruction.the-variants.{Illegal, Call, Sethi, Bicc, Arithmetic, Jmpl, Ticc, Load, Store, Shift, Rdy, Wry}
 use Rattle.words.specs.declared.Written.{Written}
 use Rattle.words.specs.declared.Written.the-variants.{Fit, Unfit}
 
@@ -33,6 +33,8 @@ sixOf (Ticc cond rs1 x) = withOperand 186 cond rs1 x
 sixOf (Load o rd rs1 x) = withOperand (192 + loadOp3 o) rd rs1 x
 sixOf (Store w rd rs1 x) = withOperand (192 + storeOp3 w) rd rs1 x
 sixOf (Shift o rd rs1 x) = withOperand (128 + shiftOp3 o) rd rs1 x
+sixOf (Rdy rd) = 168 ∷ 0 ∷ rd ∷ 0 ∷ 0 ∷ 0 ∷ []
+sixOf (Wry s) = withOperand 176 0 (s .rs1) (s .operand)
 
 -- a mark of 0 is a register's, any other a constant's
 unfoldable pub operandFrom : ℕ → ℕ → Operand

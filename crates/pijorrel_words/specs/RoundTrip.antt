@@ -1,7 +1,7 @@
 -- 02, N2, on the bytes of both calls: "Every instruction not refused reads back from its word, and every known word is written again bit for bit."
 use Prim.Native.Nat.{ℕ, _^_, _<_}
 use mathlib.Core.Path.{_≡_}
-use mathlib.Core.Bool.{not}
+use mathlib.Core.Bool.{Bool, not, _&&_, _||_}
 use mathlib.Core.List.{List, [], _∷_}
 use lib.Dec.{eqb, leb}
 use Rattle.numbers.specs.Choice.{pick}
@@ -13,16 +13,20 @@ use Rattle.pijorrel_words.specs.Forms.{writes, reads}
 unfoldable pub counted : ℕ → ℕ
 counted n = bitOf (not (eqb n 0))
 
--- Six numbers in normal form: a number that the form does not have is 0. Annul is Bicc's; all but call have rd or a condition; rs1 and the mark of a
--- constant stand in formats 2 and 3, whose forms are 128 and above.
+-- rs1 and a second operand stand in formats 2 and 3, whose forms are 128 and above, but for rdy
+unfoldable pub hasOperand : ℕ → Bool
+hasOperand form = leb 128 form && not (eqb form 168)
+
+-- Six numbers in normal form: a number that the form does not have is 0. Annul is Bicc's; all but call and wry have rd or a condition; all but
+-- rdy have a constant, a second register or a displacement.
 unfoldable pub normalOf : ℕ → ℕ → ℕ → ℕ → ℕ → ℕ → List ℕ
 normalOf form annul rd rs1 mark v =
     form
     ∷ pick (eqb form 2) (counted annul) 0
-    ∷ pick (eqb form 64) 0 rd
-    ∷ pick (leb 128 form) rs1 0
-    ∷ pick (leb 128 form) (counted mark) 0
-    ∷ v
+    ∷ pick (eqb form 64 || eqb form 176) 0 rd
+    ∷ pick (hasOperand form) rs1 0
+    ∷ pick (hasOperand form) (counted mark) 0
+    ∷ pick (eqb form 168) 0 v
     ∷ []
 
 unfoldable pub normal : List ℕ → List ℕ

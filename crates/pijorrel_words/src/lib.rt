@@ -54,6 +54,12 @@ fn write2(op3: u32, rd: u32, rs1: u32, x: Operand) -> Written
         if numbers::subtract(op3, 37) < 3 {
             return words::shift_word(rd, op3, rs1, x);
         }
+        if op3 == 40 {
+            return words::rdy_word(rd);
+        }
+        if op3 == 48 {
+            return words::wry_word(rs1, x);
+        }
         return words::long_word(2, rd, op3, rs1, x);
     }
     Written::Unfit(0)
@@ -176,6 +182,11 @@ fn six_of(i: Instruction) -> Six
         Instruction::Load(o, rd, rs1, x) => six_with(192 + words::load_op3(o), rd, rs1, x),
         Instruction::Store(w, rd, rs1, x) => six_with(192 + words::store_op3(w), rd, rs1, x),
         Instruction::Shift(o, rd, rs1, x) => six_with(128 + words::shift_op3(o), rd, rs1, x),
+        Instruction::Rdy(rd) => plain_six(168, 0, rd, 0),
+        Instruction::Wry(s) => {
+            let x = s.operand;
+            six_with(176, 0, s.rs1, x)
+        }
     }
 }
 

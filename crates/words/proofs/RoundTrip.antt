@@ -6,7 +6,7 @@ use mathlib.Core.List.{List, [], _∷_}
 use native.Mathlib.Nat.{mod-lt, mod-eq-of-lt}
 use native.Mathlib.Omega.{arith}
 use lib.Dec.{eqb}
-use lib.Pow.{pow-pos}
+use lib.Pow.{pow-pos, mod-pow-add}
 use borrow.Author.Tests.{lt-ltb, ltb-true, eqb-true, eqb-false}
 use Rattle.numbers.specs.Choice.{pick}
 use Rattle.numbers.specs.Number.{signed}
@@ -15,7 +15,7 @@ use Rattle.words.specs.Conditions.{bitOf}
 use Rattle.words.specs.declared.Operand.{Operand}
 use Rattle.words.specs.declared.Operand.the-variants.{Register, Constant}
 use Rattle.words.specs.declared.Operation.{Operation}
-use Rattle.words.specs.declared.Operation.the-variants.{Add, And, Or, Xor, Sub, Andn, Orn, Xnor, Addx, Subx}
+use Rattle.words.specs.declared.Operation.the-variants.{Add, And, Or, Xor, Sub, Andn, Orn, Xnor, Addx, Subx, Umul, Smul}
 use Rattle.words.specs.declared.ShiftOperation.{ShiftOperation}
 use Rattle.words.specs.declared.ShiftOperation.the-variants.{Sll, Srl, Sra}
 use Rattle.words.specs.declared.LoadOperation.{LoadOperation}
@@ -23,10 +23,10 @@ use Rattle.words.specs.declared.LoadOperation.the-variants.{Ld, Ldub, Ld
 use Rattle.words.specs.declared.Width.{Width}
 use Rattle.words.specs.declared.Width.the-variants.{Byte, Half, Word}
 use Rattle.words.specs.declared.Instruction.{Instruction}
-use Rattle.words.specs.declared.Instruction.the-variants.{Illegal, Call, Sethi, Bicc, Arithmetic, Jmpl, Ticc, Load, Store, Shift}
+use Rattle.words.specs.declared.Instruction.the-variants.{Illegal, Call, Sethi, Bicc, Arithmetic, Jmpl, Ticc, Load, Store, Shift, Rdy, Wry}
 use Rattle.words.specs.declared.Written.the-variants.{Fit}
-use Rattle.words.specs.Reader.{bits, bitSet, operandOf, rows0, format0Of, Format2, rows2, none2, format2Of, Format3, rows3, none3, format3Of, byFormat, setFrom, registerStrays, unusedSet, strictly, instructionOf}
-use Rattle.words.specs.Writer.{Field, plain, withSign, joined, operand, constant13, constant7, constant5, arithmeticOp3, shiftOp3, loadOp3, storeOp3, longWord, shiftWord, trapWord, sethiWord, branchWord, callWord, writtenOf}
+use Rattle.words.specs.Reader.{bits, bitSet, operandOf, sources, rows0, format0Of, Format2, rows2, none2, format2Of, Format3, rows3, none3, format3Of, byFormat, setFrom, registerStrays, rdyStrays, wryStrays, unusedSet, strictly, instructionOf}
+use Rattle.words.specs.Writer.{Field, plain, withSign, joined, operand, constant13, constant7, constant5, arithmeticOp3, shiftOp3, loadOp3, storeOp3, longWord, shiftWord, rdyWord, wryWord, trapWord, sethiWord, branchWord, callWord, writtenOf}
 use Rattle.words.specs.RoundTrip.{ReadsBack, WritesAgain}
 use Rattle.words.proofs.Strict.{and-false, or-clear}
 use Rattle.words.proofs.Joined.{total, Sounds, Has, Holds, plain-sound, sign-sound, joined-holds, joined-back, read-fits, fits-read}
@@ -190,6 +190,10 @@ arithmetic-row Addx true cond rd rs1 x = refl
 arithmetic-row Addx false cond rd rs1 x = refl
 arithmetic-row Subx true cond rd rs1 x = refl
 arithmetic-row Subx false cond rd rs1 x = refl
+arithmetic-row Umul true cond rd rs1 x = refl
+arithmetic-row Umul false cond rd rs1 x = refl
+arithmetic-row Smul true cond rd rs1 x = refl
+arithmetic-row Smul false cond rd rs1 x = refl
 
 load-row : (o : LoadOperation) (rd rs1 : ℕ) (x : Operand) → format3Of (loadOp3 o) rd rs1 x ≡ Load o rd rs1 x
 unfolding loadOp3 format3Of
@@ -224,6 +228,26 @@ jmpl-back rd rs1 x w e =
     let l = front-read 2 rd 56 rs1 w constant13 room-13 x (omega arith) e in
     let p = operand-13 w x (l .rest) in
     read-2 w rd 56 rs1 x _ (Jmpl rd rs1 x) l (p .0) (λ cond. refl) (p .1)
+
+wry-back : (rs1 : ℕ) (x : Operand) (w : ℕ) → wryWord rs1 x ≡ Fit w → instructionOf w ≡ Wry (sources rs1 x)
+unfolding wryWord longWord unusedSet wryStrays format2Of
+wry-back rs1 x w e =
+    let l = front-read 2 0 48 rs1 w constant13 room-13 x (omega arith) e in
+    let p = operand-13 w x (l .rest) in
+    read-2 w 0 48 rs1 x _ (Wry (sources rs1 x)) l (p .0) (λ cond. refl) (rw (p .1, l .rd-is))
+
+-- of a rdy the fields behind rd hold 0
+low-fourteen : (w : ℕ) → bits w 13 1 ≡ 0 → bits w 0 13 ≡ 0 → bits w 0 14 ≡ 0
+unfolding bits
+low-fourteen w a b = let m = mod-pow-add (w / 1) 1 13 in omega (arith, m)
+
+rdy-back : (rd w : ℕ) → rdyWord rd ≡ Fit w → instructionOf w ≡ Rdy rd
+unfolding rdyWord longWord unusedSet rdyStrays format2Of
+rdy-back rd w e =
+    let l = front-read 2 rd 40 0 w constant13 room-13 (Register 0) (omega arith) e in
+    let s = l .rest in
+    read-2 w rd 40 0 (Register 0) _ (Rdy rd) l (register-read w 0 s .0) (λ cond. refl)
+    (rw (l .rs1-is, low-fourteen w (s .0 .here) (low-five w 0 (s .1 .0 .here) (s .1 .1 .0 .here))))
 
 load-back : (o : LoadOperation) (rd rs1 : ℕ) (x : Operand) (w : ℕ) → longWord 3 rd (loadOp3 o) rs1 x ≡ Fit w → instructionOf w ≡ Load o rd rs1 x
 unfolding longWord unusedSet
@@ -300,6 +324,8 @@ reads-back (Ticc cond rs1 x) w e = trap-back cond rs1 x w e
 reads-back (Load o rd rs1 x) w e = load-back o rd rs1 x w e
 reads-back (Store m rd rs1 x) w e = store-back m rd rs1 x w e
 reads-back (Shift o rd rs1 x) w e = shift-back o rd rs1 x w e
+reads-back (Rdy rd) w e = rdy-back rd w e
+reads-back (Wry s) w e = wry-back (s .rs1) (s .operand) w e
 
 -- ---- a known word is written again
 
@@ -336,6 +362,10 @@ all-clear w n k h = go (eqb (bits w n k) 0) refl h
     go : (b : Bool) → eqb (bits w n k) 0 ≡ b → not b ≡ false → bits w n k ≡ 0
     go true e h = eqb-true (bits w n k) 0 e
     go false e h = absurd (false≢true (sym h))
+
+low-clear : (w : ℕ) → bits w 0 14 ≡ 0 → (bits w 13 1 ≡ 0) × (bits w 5 8 ≡ 0) × (bits w 0 5 ≡ 0)
+unfolding bits
+low-clear w e = (omega arith, omega arith, omega arith)
 
 register-clear : (w : ℕ) → bitSet w 13 ≡ false → registerStrays w ≡ false → bits w 5 8 ≡ 0
 unfolding registerStrays setFrom
@@ -425,14 +455,26 @@ module _ (w : ℕ) (h : w < 2 ^ 32) where
   again-1 e = again (withSign 30 (signed 30 (bits w 0 30)) ∷ []) 1 refl e (sign-30 w, tt)
 
   again-2 : bits w 30 2 ≡ 2 → Again (format2Of (bits w 19 6) (bits w 25 4) (bits w 25 5) (bits w 14 5) (operandOf w))
-  unfolding format2Of writtenOf unusedSet arithmeticOp3 shiftOp3 longWord shiftWord setFrom
+  unfolding format2Of writtenOf unusedSet arithmeticOp3 shiftOp3 longWord shiftWord rdyWord wryWord setFrom rdyStrays wryStrays
   again-2 e =
       found-all (λ (key : ℕ) (f : Format2). bits w 19 6 ≡ key → Again (f (bits w 25 4) (bits w 25 5) (bits w 14 5) (operandOf w))) rows2 none2 (bits w 19 6)
-      (long 0, (long 1, (long 2, (long 3, (long 4, (long 5, (long 6, (long 7, (long 8, (long 12, (long 16, (long 17, (long 18, (long 19, (long 20, (long 21, (long 22, (long 23, (long 24, (long 28, (shift 37, (shift 38, (shift 39, (long 56, (λ f u n. trap-again e f u, tt)))))))))))))))))))))))))
+      (long 0, (long 1, (long 2, (long 3, (long 4, (long 5, (long 6, (long 7, (long 8, (long 10, (long 11, (long 12, (long 16, (long 17, (long 18, (long 19, (long 20, (long 21, (long 22, (long 23, (long 24, (long 26, (long 27, (long 28, (shift 37, (shift 38, (shift 39, (rdy, (wry, (long 56, (λ f u n. trap-again e f u, tt)))))))))))))))))))))))))))))))
       (λ f u n. absurd (n refl)) refl
     where
       long : {B : Type 0} (key : ℕ) → bits w 19 6 ≡ key → registerStrays w ≡ false → B → longWord 2 (bits w 25 5) key (bits w 14 5) (operandOf w) ≡ Fit w
       long key f u n = front-again 2 key constant13 room-13 e f (again-13 w u)
+
+      rdy : {B : Type 0} → bits w 19 6 ≡ 40 → rdyStrays w ≡ false → B → longWord 2 (bits w 25 5) 40 0 (Register 0) ≡ Fit w
+      rdy f u n =
+          let p = or-clear (not (eqb (bits w 14 5) 0)) (not (eqb (bits w 0 14) 0)) u in
+          let z = low-clear w (all-clear w 0 14 (p .1)) in
+          again (plain 5 (bits w 25 5) ∷ plain 6 40 ∷ plain 5 0 ∷ plain 1 0 ∷ plain 8 0 ∷ plain 5 0 ∷ []) 2 refl e
+          (cut-has w 25 5, (known-has w 19 6 40 f, (known-has w 14 5 0 (all-clear w 14 5 (p .0)), (known-has w 13 1 0 (z .0), (known-has w 5 8 0 (z .1), (known-has w 0 5 0 (z .2), tt))))))
+
+      wry : {B : Type 0} → bits w 19 6 ≡ 48 → registerStrays w || wryStrays w ≡ false → B → longWord 2 0 48 (bits w 14 5) (operandOf w) ≡ Fit w
+      wry f u n =
+          let p = or-clear (registerStrays w) (not (eqb (bits w 25 5) 0)) u in
+          rw (all-clear w 25 5 (p .1)) at (front-again 2 48 constant13 room-13 e f (again-13 w (p .0)))
 
       shift : {B : Type 0} (key : ℕ) → bits w 19 6 ≡ key → setFrom 5 w ≡ false → B → shiftWord (bits w 25 5) key (bits w 14 5) (operandOf w) ≡ Fit w
       shift key f u n = front-again 2 key constant5 room-5 e f (again-5 w (all-clear w 5 8 u))

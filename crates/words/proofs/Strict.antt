@@ -1,17 +1,17 @@
 -- Laws of the unused bits: what the reader's tests leave to test.
 use Prim.Native.Nat.{ℕ, zero, suc, _+_, _-_, _^_, _<_, _≤_}
 use mathlib.Core.Path.{_≡_, refl, sym}
-use mathlib.Core.Bool.{Bool, true, false, not, _&&_, _||_, false≢true}
+use mathlib.Core.Bool.{Bool, true, false, not, _&&_, _||_, or-true, false≢true}
 use mathlib.Core.List.{List, [], _∷_}
 use native.Mathlib.Omega.{arith}
-use lib.Dec.{leb, ltb}
-use borrow.Author.Tests.{lt-ltb, le-ltb, le-leb, ltb-true, ltb-false, leb-true, leb-false}
+use lib.Dec.{eqb, leb, ltb}
+use borrow.Author.Tests.{not-true, eqb-true, eqb-false, lt-ltb, le-ltb, le-leb, ltb-true, ltb-false, leb-true, leb-false}
 use Rattle.numbers.specs.Number.{minus}
-use Rattle.numbers.proofs.Choice.{either, found-passes}
+use Rattle.numbers.proofs.Choice.{both, either, found-passes}
 use Rattle.words.specs.declared.Operand.{Operand}
 use Rattle.words.specs.declared.Instruction.{Instruction}
-use Rattle.words.specs.declared.Instruction.the-variants.{Illegal, Call, Sethi, Bicc, Arithmetic, Jmpl, Ticc, Load, Store, Shift}
-use Rattle.words.specs.Reader.{bits, bitSet, operandOf, rows0, format0Of, rows2, none2, format2Of, rows3, none3, format3Of, byFormat, setFrom, registerStrays, unusedSet, strictly, instructionOf}
+use Rattle.words.specs.declared.Instruction.the-variants.{Illegal, Call, Sethi, Bicc, Arithmetic, Jmpl, Ticc, Load, Store, Shift, Rdy, Wry}
+use Rattle.words.specs.Reader.{bits, bitSet, operandOf, rows0, format0Of, rows2, none2, format2Of, rows3, none3, format3Of, byFormat, setFrom, registerStrays, rdyStrays, wryStrays, unusedSet, strictly, instructionOf}
 use Rattle.words.specs.Flow.{operandStrays, isKnown}
 use Rattle.words.specs.declared.Flow.{Flow}
 use Rattle.words.specs.declared.Flow.the-variants.{Faults, Continues, Traps, Calls, Branches, Jumps}
@@ -54,6 +54,8 @@ illegal (Ticc cond rs1 x) = false
 illegal (Load o rd rs1 x) = false
 illegal (Store w rd rs1 x) = false
 illegal (Shift o rd rs1 x) = false
+illegal (Rdy rd) = false
+illegal (Wry s) = false
 
 only-one : (i : Instruction) → illegal i ≡ true → Illegal ≡ i
 only-one Illegal e = refl
@@ -66,14 +68,21 @@ only-one (Ticc cond rs1 x) e = absurd (false≢true e)
 only-one (Load o rd rs1 x) e = absurd (false≢true e)
 only-one (Store w rd rs1 x) e = absurd (false≢true e)
 only-one (Shift o rd rs1 x) e = absurd (false≢true e)
+only-one (Rdy rd) e = absurd (false≢true e)
+only-one (Wry s) e = absurd (false≢true e)
 
 register-set : (word : ℕ) → registerStrays word ≡ true → setFrom 5 word ≡ true
 unfolding registerStrays
-register-set word h = second (not (bitSet word 13)) (setFrom 5 word) h
+register-set word h = both (not (bitSet word 13)) (setFrom 5 word) h .1
+
+-- it is one of the bits that a rdy does not use
+rdy-set : (word : ℕ) → setFrom 5 word ≡ true → rdyStrays word ≡ true
+unfolding rdyStrays setFrom bits
+rdy-set word h = go (eqb (bits word 0 14) 0) refl
   where
-    second : (a b : Bool) → a && b ≡ true → b ≡ true
-    second true b e = e
-    second false b e = absurd (false≢true e)
+    go : (b : Bool) → eqb (bits word 0 14) 0 ≡ b → not (eqb (bits word 14 5) 0) || not b ≡ true
+    go true e = let z = eqb-true (bits word 0 14) 0 e in absurd (eqb-false (bits word 5 8) 0 (not-true _ h) (omega arith))
+    go false e = or-true (not (eqb (bits word 14 5) 0))
 
 pub strays-any : (word : ℕ) → 2 ≤ bits word 30 2 → registerStrays word ≡ true → Illegal ≡ instructionOf word
 unfolding instructionOf byFormat format2Of format3Of strictly unusedSet
@@ -84,7 +93,7 @@ strays-any word l h = only-one _ (go (bits word 30 2) l)
     go (suc zero) l = absurd (omega arith)
     go (suc (suc zero)) l =
         found-passes (λ k f. illegal (strictly word (f (bits word 25 4) (bits word 25 5) (bits word 14 5) (operandOf word)))) rows2 none2 (bits word 19 6)
-        (rw (h, register-set word h)) refl
+        (rw (h, register-set word h, rdy-set word (register-set word h))) refl
     go (suc (suc (suc k))) l =
         found-passes (λ k f. illegal (strictly word (f (bits word 25 5) (bits word 14 5) (operandOf word)))) rows3 none3 (bits word 19 6) (rw h) refl
 
@@ -155,7 +164,7 @@ strays-flow word l h = go (registerStrays word) (leb 37 (bits word 19 6)) (ltb (
 
 -- a word of zeros has no bit set at all
 pub nothing-set : (i : Instruction) → strictly 0 i ≡ i
-unfolding strictly unusedSet registerStrays setFrom bitSet bits
+unfolding strictly unusedSet registerStrays rdyStrays wryStrays setFrom bitSet bits
 nothing-set Illegal = refl
 nothing-set (Call disp) = refl
 nothing-set (Sethi rd imm) = refl
@@ -166,6 +175,12 @@ nothing-set (Ticc cond rs1 x) = refl
 nothing-set (Load o rd rs1 x) = refl
 nothing-set (Store w rd rs1 x) = refl
 nothing-set (Shift o rd rs1 x) = refl
+nothing-set (Rdy rd) = refl
+nothing-set (Wry s) = refl
+
+pub nothing-strays-y : (rdyStrays 0 ≡ false) × (wryStrays 0 ≡ false)
+unfolding rdyStrays wryStrays bits
+nothing-strays-y = (refl, refl)
 
 pub nothing-strays : (op3 : ℕ) → operandStrays op3 0 ≡ false
 unfolding setFrom bits

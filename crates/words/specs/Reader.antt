@@ -7,12 +7,13 @@ use Rattle.numbers.specs.Choice.{pick, find}
 use Rattle.numbers.specs.Number.{signed}
 use Rattle.words.specs.declared.Operand.{Operand}
 use Rattle.words.specs.declared.Operand.the-variants.{Register, Constant}
-use Rattle.words.specs.declared.Operation.the-variants.{Add, And, Or, Xor, Sub, Andn, Orn, Xnor, Addx, Subx}
+use Rattle.words.specs.declared.Sources.{Sources}
+use Rattle.words.specs.declared.Operation.the-variants.{Add, And, Or, Xor, Sub, Andn, Orn, Xnor, Addx, Subx, Umul, Smul}
 use Rattle.words.specs.declared.ShiftOperation.the-variants.{Sll, Srl, Sra}
 use Rattle.words.specs.declared.LoadOperation.the-variants.{Ld, Ldub, Lduh, Ldsb, Ldsh}
 use Rattle.words.specs.declared.Width.the-variants.{Byte, Half, Word}
 use Rattle.words.specs.declared.Instruction.{Instruction}
-use Rattle.words.specs.declared.Instruction.the-variants.{Illegal, Call, Sethi, Bicc, Arithmetic, Jmpl, Ticc, Load, Store, Shift}
+use Rattle.words.specs.declared.Instruction.the-variants.{Illegal, Call, Sethi, Bicc, Arithmetic, Jmpl, Ticc, Load, Store, Shift, Rdy, Wry}
 
 -- "the other fields are cut from it as V8 draws them": so many bits of a word, from the lowest of them
 unfoldable pub bits : ℕ → ℕ → ℕ → ℕ
@@ -25,6 +26,9 @@ bitSet word n = eqb (bits word n 1) 1
 unfoldable pub operandOf : ℕ → Operand
 operandOf word = pick (bitSet word 13) (Constant (signed 13 (bits word 0 13))) (Register (bits word 0 5))
 
+abbrev pub sources : ℕ → Operand → Sources
+sources r x = record { rs1 = r; operand = x }
+
 -- format 0, by op2: branches and sethi
 abbrev pub rows0 : ℕ → List (ℕ × Instruction)
 rows0 word =
@@ -33,7 +37,8 @@ rows0 word =
 unfoldable pub format0Of : ℕ → Instruction
 format0Of word = find (rows0 word) Illegal (bits word 22 3)
 
--- format 2, by op3: what the word reads as, from its fields cond, rd, rs1 and its second operand
+-- format 2, by op3: what the word reads as, from its fields cond, rd, rs1 and its second operand. 02, N4: "Add umul, smul, umulcc, smulcc, rdy and
+-- wry from V8"
 abbrev pub Format2 : Type 0
 Format2 = ℕ → ℕ → ℕ → Operand → Instruction
 
@@ -51,6 +56,8 @@ rows2 =
     ∷ (6, λ cond rd rs1 x. Arithmetic Orn false rd rs1 x)
     ∷ (7, λ cond rd rs1 x. Arithmetic Xnor false rd rs1 x)
     ∷ (8, λ cond rd rs1 x. Arithmetic Addx false rd rs1 x)
+    ∷ (10, λ cond rd rs1 x. Arithmetic Umul false rd rs1 x)
+    ∷ (11, λ cond rd rs1 x. Arithmetic Smul false rd rs1 x)
     ∷ (12, λ cond rd rs1 x. Arithmetic Subx false rd rs1 x)
     ∷ (16, λ cond rd rs1 x. Arithmetic Add true rd rs1 x)
     ∷ (17, λ cond rd rs1 x. Arithmetic And true rd rs1 x)
@@ -61,10 +68,14 @@ rows2 =
     ∷ (22, λ cond rd rs1 x. Arithmetic Orn true rd rs1 x)
     ∷ (23, λ cond rd rs1 x. Arithmetic Xnor true rd rs1 x)
     ∷ (24, λ cond rd rs1 x. Arithmetic Addx true rd rs1 x)
+    ∷ (26, λ cond rd rs1 x. Arithmetic Umul true rd rs1 x)
+    ∷ (27, λ cond rd rs1 x. Arithmetic Smul true rd rs1 x)
     ∷ (28, λ cond rd rs1 x. Arithmetic Subx true rd rs1 x)
     ∷ (37, λ cond rd rs1 x. Shift Sll rd rs1 x)
     ∷ (38, λ cond rd rs1 x. Shift Srl rd rs1 x)
     ∷ (39, λ cond rd rs1 x. Shift Sra rd rs1 x)
+    ∷ (40, λ cond rd rs1 x. Rdy rd)
+    ∷ (48, λ cond rd rs1 x. Wry (sources rs1 x))
     ∷ (56, λ cond rd rs1 x. Jmpl rd rs1 x)
     ∷ (58, λ cond rd rs1 x. Ticc cond rs1 x)
     ∷ []
@@ -109,7 +120,14 @@ setFrom n word = not (eqb (bits word n (13 - n)) 0)
 unfoldable pub registerStrays : ℕ → Bool
 registerStrays word = not (bitSet word 13) && setFrom 5 word
 
--- "or a shift's constant; bits 12 to 7 of a Ticc with a constant; bit 29 of a Ticc"; a word without a second operand uses all its bits
+-- 02, N4: "Rdy with rs1 not 0 and wry with rd not 0 are illegal, as is rdy with any of bits 13 to 0 set."
+unfoldable pub rdyStrays : ℕ → Bool
+rdyStrays word = not (eqb (bits word 14 5) 0) || not (eqb (bits word 0 14) 0)
+
+unfoldable pub wryStrays : ℕ → Bool
+wryStrays word = not (eqb (bits word 25 5) 0)
+
+-- 02, N2: "or a shift's constant; bits 12 to 7 of a Ticc with a constant; bit 29 of a Ticc"; call, sethi and Bicc use all their bits
 unfoldable pub unusedSet : Instruction → ℕ → Bool
 unusedSet Illegal word = false
 unusedSet (Call disp) word = false
@@ -121,6 +139,8 @@ unusedSet (Ticc cond rs1 x) word = registerStrays word || (bitSet word 29 || set
 unusedSet (Load o rd rs1 x) word = registerStrays word
 unusedSet (Store w rd rs1 x) word = registerStrays word
 unusedSet (Shift o rd rs1 x) word = setFrom 5 word
+unusedSet (Rdy rd) word = rdyStrays word
+unusedSet (Wry s) word = registerStrays word || wryStrays word
 
 unfoldable pub strictly : ℕ → Instruction → Instruction
 strictly word i = pick (unusedSet i word) Illegal i
@@ -145,3 +165,5 @@ asJmpl (Ticc cond rs1 x) = Illegal
 asJmpl (Load o rd rs1 x) = Illegal
 asJmpl (Store w rd rs1 x) = Illegal
 asJmpl (Shift o rd rs1 x) = Illegal
+asJmpl (Rdy rd) = Illegal
+asJmpl (Wry s) = Illegal

@@ -9,7 +9,7 @@ use Rattle.words.specs.Conditions.{bitOf}
 use Rattle.words.specs.declared.Operand.{Operand}
 use Rattle.words.specs.declared.Operand.the-variants.{Register, Constant}
 use Rattle.words.specs.declared.Operation.{Operation}
-use Rattle.words.specs.declared.Operation.the-variants.{Add, And, Or, Xor, Sub, Andn, Orn, Xnor, Addx, Subx}
+use Rattle.words.specs.declared.Operation.the-variants.{Add, And, Or, Xor, Sub, Andn, Orn, Xnor, Addx, Subx, Umul, Smul}
 use Rattle.words.specs.declared.ShiftOperation.{ShiftOperation}
 use Rattle.words.specs.declared.ShiftOperation.the-variants.{Sll, Srl, Sra}
 use Rattle.words.specs.declared.LoadOperation.{LoadOperation}
@@ -17,7 +17,7 @@ use Rattle.words.specs.declared.LoadOperation.the-variants.{Ld, Ldub, Ld
 use Rattle.words.specs.declared.Width.{Width}
 use Rattle.words.specs.declared.Width.the-variants.{Byte, Half, Word}
 use Rattle.words.specs.declared.Instruction.{Instruction}
-use Rattle.words.specs.declared.Instruction.the-variants.{Illegal, Call, Sethi, Bicc, Arithmetic, Jmpl, Ticc, Load, Store, Shift}
+use Rattle.words.specs.declared.Instruction.the-variants.{Illegal, Call, Sethi, Bicc, Arithmetic, Jmpl, Ticc, Load, Store, Shift, Rdy, Wry}
 use Rattle.words.specs.declared.Written.{Written}
 use Rattle.words.specs.declared.Written.the-variants.{Fit, Unfit}
 
@@ -73,6 +73,8 @@ arithmeticOp3 Andn cc = pick cc 21 5
 arithmeticOp3 Orn cc = pick cc 22 6
 arithmeticOp3 Xnor cc = pick cc 23 7
 arithmeticOp3 Addx cc = pick cc 24 8
+arithmeticOp3 Umul cc = pick cc 26 10
+arithmeticOp3 Smul cc = pick cc 27 11
 arithmeticOp3 Subx cc = pick cc 28 12
 
 unfoldable pub shiftOp3 : ShiftOperation → ℕ
@@ -99,6 +101,13 @@ longWord op rd op3 rs1 x = joined (Fit op) (plain 5 rd ∷ plain 6 op3 ∷ plain
 unfoldable pub shiftWord : ℕ → ℕ → ℕ → Operand → Written
 shiftWord rd op3 rs1 x = joined (Fit 2) (plain 5 rd ∷ plain 6 op3 ∷ plain 5 rs1 ∷ operand constant5 x)
 
+-- 02, N4: "N2's writer covers them"; what rdy and wry do not have is 0
+unfoldable pub rdyWord : ℕ → Written
+rdyWord rd = longWord 2 rd 40 0 (Register 0)
+
+unfoldable pub wryWord : ℕ → Operand → Written
+wryWord rs1 x = longWord 2 0 48 rs1 x
+
 unfoldable pub trapWord : ℕ → ℕ → Operand → Written
 trapWord cond rs1 x = joined (Fit 2) (plain 1 0 ∷ plain 4 cond ∷ plain 6 58 ∷ plain 5 rs1 ∷ operand constant7 x)
 
@@ -123,3 +132,5 @@ writtenOf (Ticc cond rs1 x) = trapWord cond rs1 x
 writtenOf (Load o rd rs1 x) = longWord 3 rd (loadOp3 o) rs1 x
 writtenOf (Store w rd rs1 x) = longWord 3 rd (storeOp3 w) rs1 x
 writtenOf (Shift o rd rs1 x) = shiftWord rd (shiftOp3 o) rs1 x
+writtenOf (Rdy rd) = rdyWord rd
+writtenOf (Wry s) = wryWord (s .rs1) (s .operand)

@@ -6,13 +6,14 @@ ghost use Prim.Native.Nat.{ℕ, _+_, _-_, _^_, _<_, _≤_, min};
 ghost use Rattle.numbers.specs.Number.{signed};
 ghost use Rattle.words.specs.declared.Operand.{Operand};
 ghost use Rattle.words.specs.declared.ShiftOperation.{ShiftOperation};
-ghost use Rattle.words.specs.declared.Instruction.the-variants.{Arithmetic, Jmpl, Ticc, Load, Store, Shift};
-ghost use Rattle.words.specs.Reader.{bits, bitSet, registerStrays, setFrom, strictly, operandOf, format0Of, format2Of, format3Of, instructionOf, isUnimp, asJmpl};
+ghost use Rattle.words.specs.declared.Sources.{Sources};
+ghost use Rattle.words.specs.declared.Instruction.the-variants.{Arithmetic, Jmpl, Ticc, Load, Store, Shift, Rdy, Wry};
+ghost use Rattle.words.specs.Reader.{bits, bitSet, registerStrays, setFrom, rdyStrays, wryStrays, strictly, operandOf, sources, format0Of, format2Of, format3Of, instructionOf, isUnimp, asJmpl};
 ghost use Rattle.words.specs.Conditions.{bitAt, bitOf, holdsOf};
 ghost use Rattle.words.specs.Flow.{operandStrays, flowOf, isKnown};
 ghost use Rattle.words.specs.declared.Operand.the-variants.{Register};
 ghost use Rattle.words.specs.declared.Written.the-variants.{Fit};
-ghost use Rattle.words.specs.Writer.{Field, plain, withSign, behind, joined, operand, constant13, constant7, constant5, arithmeticOp3, shiftOp3, loadOp3, storeOp3, longWord, shiftWord, trapWord, sethiWord, branchWord, callWord, writtenOf};
+ghost use Rattle.words.specs.Writer.{Field, plain, withSign, behind, joined, operand, constant13, constant7, constant5, arithmeticOp3, shiftOp3, loadOp3, storeOp3, longWord, shiftWord, rdyWord, wryWord, trapWord, sethiWord, branchWord, callWord, writtenOf};
 
 // The second operand: a register, or a constant. A shift's constant has 5 bits and a Ticc's 7; any other is a signed one of 13, extended to 32.
 pub enum Operand {
@@ -31,6 +32,8 @@ pub enum Operation {
     Xnor,
     Addx,
     Subx,
+    Umul,
+    Smul,
 }
 
 // A shift has no flag form.
@@ -56,6 +59,13 @@ pub enum Width {
     Word,
 }
 
+// rs1 and the second operand as one, so that they lie where those of other words lie behind rd: as two fields of a wry they kept the compiler
+// from taking instructions apart.
+pub struct Sources {
+    pub rs1: u32,
+    pub operand: Operand,
+}
+
 // What a word reads as: illegal, or an instruction. Each instruction has one word, if its numbers fit their fields. Displacements
 // count words and are signed, extended to 32 bits.
 pub enum Instruction {
@@ -78,6 +88,10 @@ pub enum Instruction {
     Store(Width, u32, u32, Operand),
     // operation, rd, rs1, second operand
     Shift(ShiftOperation, u32, u32, Operand),
+    // rd
+    Rdy(u32),
+    // rs1, second operand
+    Wry(Sources),
 }
 
 // ---- the fields of a word, as V8 draws them
@@ -284,6 +298,47 @@ fn trap(word: u32) -> Instruction
     Instruction::Ticc(cond(word), rs1(word), second_operand(word))
 }
 
+// Bits 13 to 0, which a rdy does not use; nor does it use rs1, nor a wry rd.
+fn low14(word: u32) -> u32
+    ensures { λ r. ⌜ r ≡ bits word 0 14 ⌝ }
+{
+    word & 16383
+}
+
+fn rdy_strays(word: u32) -> bool
+    ensures { λ r. ⌜ r ≡ rdyStrays word ⌝ }
+{
+    if rs1(word) != 0 {
+        return true;
+    }
+    low14(word) != 0
+}
+
+fn rdy(word: u32) -> Instruction
+    ensures { λ r. ⌜ r ≡ strictly word (Rdy (bits word 25 5)) ⌝ }
+{
+    if rdy_strays(word) {
+        return Instruction::Illegal;
+    }
+    Instruction::Rdy(rd(word))
+}
+
+fn wry(word: u32) -> Instruction
+    ensures { λ r. ⌜ r ≡ strictly word (Wry (sources (bits word 14 5) (operandOf word))) ⌝ }
+{
+    if register_strays(word) {
+        return Instruction::Illegal;
+    }
+    if rd(word) != 0 {
+        return Instruction::Illegal;
+    }
+    let s = Sources {
+        rs1: rs1(word),
+        operand: second_operand(word),
+    };
+    Instruction::Wry(s)
+}
+
 // Format 0, by op2: branches and sethi.
 fn format0(word: u32) -> Instruction
     ensures { λ r. ⌜ r ≡ format0Of word ⌝ }
@@ -296,7 +351,7 @@ fn format0(word: u32) -> Instruction
     }
 }
 
-// Format 2, by op3: arithmetic, jmpl and Ticc.
+// Format 2, by op3: arithmetic, shifts, Y, jmpl and Ticc.
 fn format2(op3: u32, word: u32) -> Instruction
     ensures { λ r. ⌜ r ≡ strictly word (format2Of op3 (bits word 25 4) (bits word 25 5) (bits word 14 5) (operandOf word)) ⌝ }
 {
@@ -310,6 +365,8 @@ fn format2(op3: u32, word: u32) -> Instruction
         6 => arithmetic(Operation::Orn, false, word),
         7 => arithmetic(Operation::Xnor, false, word),
         8 => arithmetic(Operation::Addx, false, word),
+        10 => arithmetic(Operation::Umul, false, word),
+        11 => arithmetic(Operation::Smul, false, word),
         12 => arithmetic(Operation::Subx, false, word),
         16 => arithmetic(Operation::Add, true, word),
         17 => arithmetic(Operation::And, true, word),
@@ -320,10 +377,14 @@ fn format2(op3: u32, word: u32) -> Instruction
         22 => arithmetic(Operation::Orn, true, word),
         23 => arithmetic(Operation::Xnor, true, word),
         24 => arithmetic(Operation::Addx, true, word),
+        26 => arithmetic(Operation::Umul, true, word),
+        27 => arithmetic(Operation::Smul, true, word),
         28 => arithmetic(Operation::Subx, true, word),
         37 => shift(ShiftOperation::Sll, word),
         38 => shift(ShiftOperation::Srl, word),
         39 => shift(ShiftOperation::Sra, word),
+        40 => rdy(word),
+        48 => wry(word),
         56 => jump(word),
         58 => trap(word),
         _ => Instruction::Illegal,
@@ -440,8 +501,27 @@ fn trap_flow(cond: u32, word: u32) -> Flow
     Flow::Continues
 }
 
+fn rdy_flow(word: u32) -> Flow
+    ensures { λ r. ⌜ ((rd : ℕ) → r ≡ flowOf (strictly word (Rdy rd))) ⌝ }
+{
+    if rdy_strays(word) {
+        return Flow::Faults;
+    }
+    Flow::Continues
+}
+
+fn wry_flow(word: u32) -> Flow
+    requires { ⌜ registerStrays word ≡ false ⌝ }
+    ensures { λ r. ⌜ ((s : Sources) → r ≡ flowOf (strictly word (Wry s))) ⌝ }
+{
+    if rd(word) != 0 {
+        return Flow::Faults;
+    }
+    Flow::Continues
+}
+
 fn flow2(op3: u32, cond: u32, rd: u32, word: u32) -> Flow
-    requires { ⌜ operandStrays op3 word ≡ false ⌝ }
+    requires { ⌜ (operandStrays op3 word ≡ false) × (op3 ≡ 40 → rdyStrays word ≡ false) × (op3 ≡ 48 → wryStrays word ≡ false) ⌝ }
     ensures { λ r. ⌜ ((rs1 : ℕ) (x : Operand) → r ≡ flowOf (strictly word (format2Of op3 cond rd rs1 x))) ⌝ }
 {
     match op3 {
@@ -454,6 +534,8 @@ fn flow2(op3: u32, cond: u32, rd: u32, word: u32) -> Flow
         6 => Flow::Continues,
         7 => Flow::Continues,
         8 => Flow::Continues,
+        10 => Flow::Continues,
+        11 => Flow::Continues,
         12 => Flow::Continues,
         16 => Flow::Continues,
         17 => Flow::Continues,
@@ -464,14 +546,32 @@ fn flow2(op3: u32, cond: u32, rd: u32, word: u32) -> Flow
         22 => Flow::Continues,
         23 => Flow::Continues,
         24 => Flow::Continues,
+        26 => Flow::Continues,
+        27 => Flow::Continues,
         28 => Flow::Continues,
         37 => Flow::Continues,
         38 => Flow::Continues,
         39 => Flow::Continues,
+        40 => Flow::Continues,
+        48 => Flow::Continues,
         56 => Flow::Jumps(rd),
         58 => trap_flow(cond, word),
         _ => Flow::Faults,
     }
+}
+
+// Rdy and wry, whose unused bits are their own, are told before the others: in the arms they made `read_flow` too large to go inline.
+fn flow2_or_y(op3: u32, word: u32) -> Flow
+    requires { ⌜ operandStrays op3 word ≡ false ⌝ }
+    ensures { λ r. ⌜ ((rs1 : ℕ) (x : Operand) → r ≡ flowOf (strictly word (format2Of op3 (bits word 25 4) (bits word 25 5) rs1 x))) ⌝ }
+{
+    if op3 == 40 {
+        return rdy_flow(word);
+    }
+    if op3 == 48 {
+        return wry_flow(word);
+    }
+    flow2(op3, cond(word), rd(word), word)
 }
 
 fn flow3(op3: u32) -> Flow
@@ -505,7 +605,7 @@ pub fn read_flow(word: u32) -> Flow
         return Flow::Faults;
     }
     if k == 2 {
-        return flow2(op3(word), cond(word), rd(word), word);
+        return flow2_or_y(op3(word), word);
     }
     flow3(op3(word))
 }
@@ -637,6 +737,19 @@ pub fn shift_word(rd: u32, op3: u32, rs1: u32, x: Operand) -> Written
     put_operand5(upper(2, rd, op3, rs1), x)
 }
 
+// What they do not use is written as 0: rs1 and the second operand of a rdy, rd of a wry.
+pub fn rdy_word(rd: u32) -> Written
+    ensures { λ r. ⌜ r ≡ rdyWord rd ⌝ }
+{
+    long_word(2, rd, 40, 0, Operand::Register(0))
+}
+
+pub fn wry_word(rs1: u32, x: Operand) -> Written
+    ensures { λ r. ⌜ r ≡ wryWord rs1 x ⌝ }
+{
+    long_word(2, 0, 48, rs1, x)
+}
+
 pub fn trap_word(cond: u32, rs1: u32, x: Operand) -> Written
     ensures { λ r. ⌜ r ≡ trapWord cond rs1 x ⌝ }
 {
@@ -689,6 +802,8 @@ fn plain_op3(o: Operation) -> u32
         Operation::Orn => 6,
         Operation::Xnor => 7,
         Operation::Addx => 8,
+        Operation::Umul => 10,
+        Operation::Smul => 11,
         Operation::Subx => 12,
     }
 }
@@ -757,6 +872,11 @@ pub fn write_instruction(i: Instruction) -> Written
         Instruction::Load(o, rd, rs1, x) => long_word(3, rd, load_op3(o), rs1, x),
         Instruction::Store(w, rd, rs1, x) => long_word(3, rd, store_op3(w), rs1, x),
         Instruction::Shift(o, rd, rs1, x) => shift_word(rd, shift_op3(o), rs1, x),
+        Instruction::Rdy(rd) => rdy_word(rd),
+        Instruction::Wry(s) => {
+            let x = s.operand;
+            wry_word(s.rs1, x)
+        }
     }
 }
 

@@ -1,4 +1,5 @@
-/* Checksums: CRC-32 a bit at a time and by a table of 16, Adler-32, Fletcher's sums, a mixture and a sum of 64 bits. */
+/* Checksums: CRC-32 a bit at a time and by a table of 16, Adler-32, Fletcher's sums, FNV's mixture and a sum of 64
+ * bits. */
 #include "image.h"
 
 enum { LENGTH = 64 };
@@ -62,17 +63,16 @@ static word fletcher(const byte *from, int length)
     return (high == 255 ? 0 : high) << 8 | (low == 255 ? 0 : low);
 }
 
-/* In 64 bits, so that carries pass from one register to the next. */
+/* FNV-1a, of 64 bits. */
 static wide mixture(const byte *from, int length)
 {
     wide value = 0xCBF29CE484222325u;
-    for (int i = 0; i < length; i++) {
-        value = (value << 7 | value >> 57) + from[i];
-        value -= value >> 3;
-    }
+    for (int i = 0; i < length; i++)
+        value = (value ^ from[i]) * 0x100000001B3u;
     return value;
 }
 
+/* In 64 bits, so that carries pass from one register to the next. */
 static wide total(const wide *from, int count)
 {
     wide sum = 0;
@@ -85,7 +85,6 @@ int main(void)
 {
     static const wide numbers[5] = { 1, 0xFFFFFFFFFFFFFFFFu, 0x00000001FFFFFFFFu, 0x8000000000000000u, 0xFFFFFFFFu };
     word state = 88172645;
-    wide value;
     for (int i = 0; i < LENGTH; i++)
         bytes[i] = (byte)drawn(&state);
     make_table();
@@ -93,11 +92,7 @@ int main(void)
     results[1] = crc_by_table(bytes, LENGTH);
     results[2] = adler(bytes, LENGTH);
     results[3] = fletcher(bytes, LENGTH);
-    value = mixture(bytes, 32);
-    results[4] = (word)(value >> 32);
-    results[5] = (word)value;
-    value = total(numbers, 5);
-    results[6] = (word)(value >> 32);
-    results[7] = (word)value;
+    put_wide(results + 4, mixture(bytes, 32));
+    put_wide(results + 6, total(numbers, 5));
     return 0;
 }

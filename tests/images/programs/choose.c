@@ -26,7 +26,7 @@ static word run(word first)
         case DROP: top--; break;
         case SKIP_IF_0: at += stack[--top] ? 1 : (word)program[at] + 1; break;
         case BACK: at -= program[at]; break;
-        case KEEP: kept = (kept << 5) + kept + stack[--top]; break;
+        case KEEP: kept = 33 * kept + stack[--top]; break;
         case FLIP: kept = ~kept; break;
         case STOP: return stack[top - 1];
         default: return 0xBAD;

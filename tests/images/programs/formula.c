@@ -18,20 +18,11 @@ static const char *const formulas[FORMULAS] = {
 
 static APART struct value sum(const char *text);
 
-/* By the bits of b, from the highest on. */
-static word product(word a, word b)
-{
-    word total = 0;
-    for (int i = 31; i >= 0; i--)
-        total = (total << 1) + (b >> i & 1 ? a : 0);
-    return total;
-}
-
 static APART struct value digits(const char *text)
 {
     word number = 0;
     for (; *text >= '0' && *text <= '9'; text++)
-        number = (number << 3) + (number << 1) + (word)(*text - '0');
+        number = 10 * number + (word)(*text - '0');
     return (struct value){ number, text };
 }
 
@@ -53,7 +44,7 @@ static APART struct value term(const char *text)
     struct value value = factor(text);
     while (*value.rest == '*') {
         struct value other = factor(value.rest + 1);
-        value = (struct value){ product(value.number, other.number), other.rest };
+        value = (struct value){ value.number * other.number, other.rest };
     }
     return value;
 }

@@ -28,11 +28,7 @@ static word mixed(word a, word b)
 
 static word product(word a, word b)
 {
-    word total = 0;
-    for (; b; b >>= 1, a <<= 1)
-        if (b & 1)
-            total += a;
-    return total;
+    return a * b;
 }
 
 static word least(word a, word b)

@@ -1,11 +1,12 @@
-/* What the programs share: where results go, and numbers that are the same at each run. They multiply and divide by
- * shifts, sums and differences alone, since the cores know no other way. */
+/* What the programs share: where results go, and numbers that are the same at each run. They divide by shifts,
+ * differences and products alone, since the cores know no other way. */
 #ifndef IMAGE_H
 #define IMAGE_H
 
 typedef unsigned char byte;
 typedef unsigned int word;
 typedef unsigned long long wide;
+typedef long long signed_wide;
 
 enum { RESULTS = 16 };
 
@@ -15,6 +16,13 @@ enum { RESULTS = 16 };
 
 /* Where the known results are looked for, in big-endian words. */
 extern word results[RESULTS];
+
+/* Both words of a result of 64 bits. */
+static inline void put_wide(word *at, wide value)
+{
+    at[0] = (word)(value >> 32);
+    at[1] = (word)value;
+}
 
 /* Marsaglia's xorshift, begun with any number but 0. */
 static inline word drawn(word *state)

@@ -83,6 +83,6 @@ int main(void)
         numbers[i] = (int)drawn(&state);
     sort(numbers, numbers + NUMBERS - 1);
     for (int i = 0; i < 10; i++)
-        results[5 + i] = (word)numbers[i << 1];
+        results[5 + i] = (word)numbers[2 * i];
     return 0;
 }

@@ -34,7 +34,7 @@ static const struct link *chain(void)
     const struct link *first = 0;
     for (int i = 0; i < LINKS; i++) {
         links[i].next = first;
-        links[i].bay = (short)(100 - (i << 4));
+        links[i].bay = (short)(100 - 16 * i);
         links[i].level = (signed char)(i - 6);
         first = &links[i];
     }

@@ -73,10 +73,10 @@ int main(void)
     sort_bytes();
     sort_halves();
     for (int i = 0; i < 6; i++)
-        results[i] = words[i << 2];
+        results[i] = words[4 * i];
     for (int i = 0; i < 5; i++)
         results[6 + i] = (word)bytes[3 * i];
     for (int i = 0; i < 5; i++)
-        results[11 + i] = halves[i << 2];
+        results[11 + i] = halves[4 * i];
     return 0;
 }

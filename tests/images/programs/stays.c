@@ -35,8 +35,7 @@ static APART struct stay stay_of(word minutes)
 
 static word minutes_of(const struct stay *stay)
 {
-    word hours = (stay->days << 4) + (stay->days << 3) + stay->hours;
-    return (hours << 6) - (hours << 2) + stay->minutes;
+    return 60 * (24 * stay->days + stay->hours) + stay->minutes;
 }
 
 static APART struct stay sum(struct stay a, struct stay b)

@@ -64,17 +64,17 @@ static char *decimal(char *to, int number)
 
 static int number_in(const char *text)
 {
-    int minus = *text == '-', value = 0;
+    word minus = *text == '-', value = 0;
     for (text += minus; *text >= '0' && *text <= '9'; text++)
-        value = (value << 3) + (value << 1) + (*text - '0');
-    return minus ? -value : value;
+        value = 10 * value + (word)(*text - '0');
+    return (int)(minus ? 0 - value : value);
 }
 
 static word mixture(const char *text)
 {
     word value = 5381;
     while (*text)
-        value = (value << 5) + value + (byte)*text++;
+        value = 33 * value + (byte)*text++;
     return value;
 }
 

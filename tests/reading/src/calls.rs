@@ -215,9 +215,9 @@ fn fitting_numbers(random: &mut Random) -> Numbers {
         let any = random.word();
         *number = random.pick(&[0, 1, 2, 0x8000_0000, any]);
     }
-    // Call, Bicc, sethi, the shifts and Ticc have fields of their own.
+    // Call, Bicc, sethi, the shifts, rdy, wry and Ticc have fields of their own.
     numbers[0] = if random.chance(40) {
-        random.pick(&[64, 2, 4, 165, 166, 167, 186])
+        random.pick(&[64, 2, 4, 165, 166, 167, 168, 176, 186])
     } else {
         random.pick(&forms())
     };

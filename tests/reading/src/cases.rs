@@ -7,7 +7,7 @@ use crate::new_core;
 use crate::old_core::{self, Image};
 use crate::random::{
     ample_lengths, damage_some, random_address, random_lengths, random_plain, random_program,
-    random_start, rename_first_record, spoil_entries, Program, Random,
+    random_start, random_y, rename_first_record, spoil_entries, Program, Random,
 };
 use crate::trails::{new_begun, new_trail, new_trail_of_run, old_trail, Trail};
 use crate::translator::{translate, Refusal, Translation};
@@ -189,8 +189,9 @@ impl Asked {
         let program = &self.program;
         if program.words.is_empty() {
             let address = random.pick(&[0, program.base, 2]);
-            let flags = random.below(16);
+            let (y, flags) = (random_y(random), random.below(16));
             return Start {
+                y,
                 flags,
                 ..Start::at(address)
             };

@@ -9,11 +9,13 @@ use crate::places::Place;
 use crate::trails::{new_begun, new_trail, old_trail, Trail};
 use crate::words::Flags;
 
-/// "for each core, any address with a plain place to begin at and any registers, flags and data"
+/// "for each core, any address with a plain place to begin at and any registers, flags and data"; 02, N4: "demand 3
+/// takes any Y".
 #[derive(Clone, PartialEq, Eq, Debug)]
 pub struct Start {
     pub address: u32,
     pub registers: [u32; 32],
+    pub y: u32,
     pub flags: u32,
     pub data: Vec<u8>,
 }
@@ -24,13 +26,14 @@ impl Start {
         Start {
             address,
             registers: [0; 32],
+            y: 0,
             flags: 0,
             data: vec![],
         }
     }
 
     pub fn machine(&self) -> Machine {
-        Machine::of(self.registers, Flags::of_number(self.flags))
+        Machine::of(self.registers, self.y, Flags::of_number(self.flags))
     }
 
     /// Whether a trail's first entry is this start.
@@ -40,6 +43,7 @@ impl Start {
             entry.address == self.address
                 && entry.registers[0] == 0
                 && entry.registers[1..] == self.registers[1..]
+                && entry.y == self.y
                 && entry.flags == self.flags % 16
                 && entry.data == self.data[..existing]
         })

@@ -22,6 +22,9 @@ const SLL: u32 = 0x8328_6000; // sll register 1 by 0
 const SLL_REGISTER: u32 = 0x8328_4002; // sll register 1 by register 2
 const TN_REGISTER: u32 = 0x81D0_0002; // tn of registers 0 and 2
 const CONSTANT: u32 = 1 << 13;
+const UMUL: u32 = 0x8250_4002; // umul of registers 1 and 2 to register 1
+const WRY: u32 = 0x8180_4002; // wry of registers 1 and 2
+const RDY: u32 = 0x8340_0000; // rdy to register 1
 const ILLEGAL: u32 = 0;
 const UNIMP: u32 = 12; // as gcc puts it behind the call of a function that returns 12 bytes
 const OTHER: u32 = 0x0040_0000; // illegal too, but its op2 is not 0
@@ -586,6 +589,46 @@ fn unused_bits_of_jmpl() -> Vec<Edge> {
     edges
 }
 
+/// 02, N4: the four products and wry, with each bit of the second operand, and rdy, which has none: "illegal, as is rdy
+/// with any of bits 13 to 0 set". Rd and rs1 of 0 and of others.
+fn products_and_y() -> Vec<Edge> {
+    let of = |op3: u32| 2 << 30 | op3 << 19;
+    let mut edges = vec![];
+    for word in [10, 11, 26, 27, 48].map(of) {
+        edges.push(known_or_not(word, true));
+        edges.extend((0..13).map(|bit| known_or_not(word | 1 << bit, bit < 5)));
+        edges.extend((5..13).map(|bit| known_or_not(word | CONSTANT | 1 << bit, true)));
+        edges.push(known_or_not(word | 31 << 14, true));
+    }
+    // every product has a rd, a wry none
+    edges.extend([10, 11, 26, 27].map(|op3| known_or_not(of(op3) | 31 << 25, true)));
+    edges.extend((25..30).map(|bit| known_or_not(of(48) | 1 << bit, false)));
+    edges.push(known_or_not(of(40), true));
+    edges.extend((0..19).map(|bit| known_or_not(of(40) | 1 << bit, false)));
+    edges.extend((25..30).map(|bit| known_or_not(of(40) | 1 << bit, true)));
+    // beside them: divisions, mulscc, reads and writes of PSR, WIM and TBR, and op3 that V8 leaves out
+    let beside = [9, 13, 14, 15, 25, 29, 30, 31, 36, 41, 42, 43, 49, 50, 51];
+    edges.extend(beside.map(|op3| known_or_not(of(op3), false)));
+    edges
+}
+
+/// The same words in delay slots: of a jmpl, where they have records 1 and 6, or one 7; of a branch, in a slot place.
+fn products_and_y_in_slots() -> Vec<Edge> {
+    let in_slot = |word, answer| edge(&[over(BA, 3), word, ADD, TA], 0, &[0], answer);
+    let mut edges = vec![];
+    for word in [UMUL, UMUL | 1 << 19, UMUL | 1 << 23, WRY, RDY] {
+        edges.push(held(word, (0, 2, 4)));
+        // plain 0, (4, 12), plain 12: one 5, then 1 and 5, then one 1
+        edges.push(in_slot(word, (0, 3, 4)));
+    }
+    // with an unused bit, with a rd, with a rs1: one kind 7
+    for word in [UMUL | 1 << 5, WRY | 1 << 25, RDY | 15 << 14, RDY | 1] {
+        edges.push(held(word, (0, 2, 3)));
+        edges.push(in_slot(word, (0, 2, 2)));
+    }
+    edges
+}
+
 /// Refusals 5 and 6 on 01's listing, which has three places and four records.
 fn short_buffers() -> Vec<Edge> {
     let lend = |places, records, answer| edge(&LISTED, 0, &[0], answer).lent(places, records);
@@ -725,6 +768,8 @@ pub fn edges() -> Vec<Edge> {
         unused_bits(),
         unused_bits_by_form(),
         unused_bits_of_jmpl(),
+        products_and_y(),
+        products_and_y_in_slots(),
         short_buffers(),
         across_the_top(),
         most_places(),
@@ -741,8 +786,8 @@ pub fn edges_file() -> Vec<u8> {
     [bytes([cases.len() as u32]), cases.concat()].concat()
 }
 
-/// Inputs of the listing program, each with how its output starts: 01's, conditional branches, a call that returns a record, around 0 and 1,024
-/// bytes, a refusal of each number that it can meet, and 512 and 513 places.
+/// Inputs of the listing program, each with how its output starts: 01's, conditional branches, a call that returns a record,
+/// a product with Y, around 0 and 1,024 bytes, a refusal of each number that it can meet, and 512 and 513 places.
 pub fn listings() -> Vec<(Vec<u8>, &'static str)> {
     let zeros = |length| vec![0; length];
     // be to far outside, but for some adds at the end: plain places of 256 words and the end, a slot after each be,
@@ -761,6 +806,8 @@ pub fn listings() -> Vec<(Vec<u8>, &'static str)> {
         (bytes([TA | 1 << 29, TA]), "place address next kind record\n0 0 4 0 0\nkind first second\n7 3 0\n"),
         (bytes([RETURN, LINK_BY_REGISTER | 1 << 5]), "place address next kind record\n0 0 4 0 0\n1 4 0 2 2\nkind first second\n3 2177097736 0\n5 2 0\n7 3 4\n"),
         (bytes([RETURN, LINK_BY_REGISTER]), "refused detail\n4 4\n"),
+        (bytes([0x8180_2005, 0x82D0_4002, 0x8540_0000, TA]), "place address next kind record\n0 0 4 0 0\n1 4 8 0 2\n2 8 12 0 4\n3 12 16 0 6\nkind first second\n1 2172657669 0\n5 2 0\n1 2194685954 0\n5 4 0\n1 2235564032 0\n5 6 0\n1 2446336000 0\n"),
+        (bytes([RDY | 1 << 14, TA]), "place address next kind record\n0 0 4 0 0\nkind first second\n7 3 0\n"),
         (zeros(0), "refused detail\n1 0\n"),
         (zeros(1), "refused detail\n1 1\n"),
         (zeros(3), "refused detail\n1 3\n"),

@@ -55,26 +55,32 @@ impl End {
     }
 }
 
-/// "32 registers of 32 bits, flags N, Z, V, C"
+/// "32 registers of 32 bits, flags N, Z, V, C"; 02, N4: "The state and each trail entry gain Y".
 #[derive(Clone, PartialEq, Eq, Debug)]
 pub struct Machine {
     registers: [u32; 32],
+    pub y: u32,
     pub flags: Flags,
 }
 
 impl Machine {
-    /// "The start values are all registers 0 and all flags clear."
+    /// "The start values are all registers 0 and all flags clear." 02, N4: Y is "0 among the start values".
     pub fn start() -> Machine {
         Machine {
             registers: [0; 32],
+            y: 0,
             flags: Flags::CLEAR,
         }
     }
 
-    /// Any registers and flags; "Register 0 reads and shows as 0."
-    pub fn of(mut registers: [u32; 32], flags: Flags) -> Machine {
+    /// Any registers, Y and flags; "Register 0 reads and shows as 0."
+    pub fn of(mut registers: [u32; 32], y: u32, flags: Flags) -> Machine {
         registers[0] = 0;
-        Machine { registers, flags }
+        Machine {
+            registers,
+            y,
+            flags,
+        }
     }
 
     pub fn registers(&self) -> &[u32; 32] {
@@ -159,8 +165,8 @@ impl<'a> Area<'a> {
 }
 
 /// The effect of a word that does not transfer control. "Ends 1 to 7 change no register, flag, counter,
-/// held address or data." Calls, jmpl and branches are the cores' own; a Bicc 0 without annul is also a
-/// word that does nothing.
+/// held address or data." 02, N4, of Y: "no end changes it". Calls, jmpl and branches are the cores' own; a
+/// Bicc 0 without annul is also a word that does nothing.
 pub fn effect(instruction: Instruction, machine: &mut Machine, area: &mut Area) -> Result<(), End> {
     match instruction {
         Instruction::Sethi { rd, value } => machine.write(rd, value),
@@ -202,6 +208,27 @@ pub fn effect(instruction: Instruction, machine: &mut Machine, area: &mut Area) 
                 Shift::Sra => ((value as i32) >> count) as u32,
             };
             machine.write(rd, result);
+        }
+        // 02, N4: "the high 32 bits go to Y, the low to rd; the flag forms set N and Z from the low word and
+        // clear V and C". Both operands are read before either is written.
+        Instruction::Multiply {
+            signed,
+            sets_flags,
+            rd,
+            rs1,
+            operand,
+        } => {
+            let (high, low) = product(signed, machine.read(rs1), machine.operand(operand));
+            machine.y = high;
+            machine.write(rd, low);
+            if sets_flags {
+                machine.flags = flags_of(low, false, false);
+            }
+        }
+        Instruction::ReadY { rd } => machine.write(rd, machine.y),
+        // 02, N4: "Wry writes rs1 xor operand without delay".
+        Instruction::WriteY { rs1, operand } => {
+            machine.y = machine.read(rs1) ^ machine.operand(operand);
         }
         // "1 Ticc taken, with (rs1 + operand) modulo 128."
         Instruction::Ticc {
@@ -268,6 +295,18 @@ fn compute(operation: Operation, left: u32, right: u32, carry: bool) -> (u32, Fl
         Operation::Xor => logical(left ^ right),
         Operation::Xnor => logical(!(left ^ right)),
     }
+}
+
+/// The high and the low word of the exact product, of unsigned or of signed numbers.
+fn product(signed: bool, left: u32, right: u32) -> (u32, u32) {
+    let exact = if signed {
+        left as i32 as i128 * right as i32 as i128
+    } else {
+        left as i128 * right as i128
+    };
+    let low = exact.rem_euclid(1 << 32);
+    let high = ((exact - low) >> 32).rem_euclid(1 << 32);
+    (high as u32, low as u32)
 }
 
 fn flags_of(result: u32, v: bool, c: bool) -> Flags {
@@ -352,6 +391,29 @@ mod tests {
                     }
                 }
             }
+        }
+    }
+
+    /// Products by hand: both signs of the same numbers, and those that need every bit of the high word.
+    #[test]
+    fn products_by_hand() {
+        let (least, most) = (0x8000_0000, 0x7FFF_FFFF);
+        for (left, right, unsigned, signed) in [
+            (0, !0, (0, 0), (0, 0)),
+            (3, 5, (0, 15), (0, 15)),
+            (2, !0, (1, 0xFFFF_FFFE), (!0, 0xFFFF_FFFE)), // 2 and -1
+            (!0, !0, (0xFFFF_FFFE, 1), (0, 1)),
+            (least, least, (0x4000_0000, 0), (0x4000_0000, 0)),
+            (least, !0, (most, least), (0, least)),
+            (least, 1, (0, least), (!0, least)),
+            (least, most, (0x3FFF_FFFF, least), (0xC000_0000, least)),
+            (most, most, (0x3FFF_FFFF, 1), (0x3FFF_FFFF, 1)),
+            (0x1_0000, 0x1_0000, (1, 0), (1, 0)),
+        ] {
+            assert_eq!(product(false, left, right), unsigned);
+            assert_eq!(product(false, right, left), unsigned);
+            assert_eq!(product(true, left, right), signed);
+            assert_eq!(product(true, right, left), signed);
         }
     }
 

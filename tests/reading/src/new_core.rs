@@ -84,7 +84,7 @@ impl Program<'_> {
     }
 }
 
-/// The new core's state: registers and flags as the old core's, a record number, the held address, and
+/// The new core's state: registers, Y and flags as the old core's, a record number, the held address, and
 /// how the run ended.
 #[derive(Clone, PartialEq, Eq, Debug)]
 pub struct NewState {

@@ -162,19 +162,25 @@ const ARITHMETIC: usize = 5;
 const LOAD: usize = 6;
 const STORE: usize = 7;
 const SETHI: usize = 8;
+const PRODUCT: usize = 9;
+const KINDS: usize = 10;
 
 /// How often each kind of word stands in an image.
-const STYLES: [[u32; 9]; 5] = [
-    [88, 10, 0, 2, 0, 0, 0, 0, 0],
-    [60, 7, 8, 3, 2, 14, 3, 2, 1],
-    [33, 6, 12, 5, 2, 24, 9, 7, 2],
-    [20, 10, 30, 4, 1, 20, 10, 4, 1],
-    [15, 3, 6, 5, 1, 45, 12, 10, 3],
+const STYLES: [[u32; KINDS]; 6] = [
+    [88, 10, 0, 2, 0, 0, 0, 0, 0, 0],
+    [60, 7, 8, 3, 2, 8, 3, 2, 1, 6],
+    [33, 6, 12, 5, 2, 14, 9, 7, 2, 10],
+    [20, 10, 30, 4, 1, 11, 10, 4, 1, 9],
+    [15, 3, 6, 5, 1, 35, 12, 10, 3, 10],
+    [15, 3, 5, 4, 1, 10, 6, 5, 2, 49],
 ];
 
 /// Words that transfer control, and words that a held place may have.
-const BACK: [u32; 9] = [70, 10, 15, 5, 0, 0, 0, 0, 0];
-const HARMLESS: [u32; 9] = [0, 0, 0, 2, 1, 30, 10, 7, 2];
+const BACK: [u32; KINDS] = [70, 10, 15, 5, 0, 0, 0, 0, 0, 0];
+const HARMLESS: [u32; KINDS] = [0, 0, 0, 2, 1, 18, 8, 6, 2, 15];
+
+const RDY: u32 = 0b101000;
+const WRY: u32 = 0b110000;
 
 fn format_3(op: u32, op3: u32, rd: u32, rs1: u32, operand: u32) -> u32 {
     (op << 30) | (rd << 25) | (op3 << 19) | (rs1 << 14) | operand
@@ -213,12 +219,15 @@ fn unsigned_operand(random: &mut Random, limit: u32) -> u32 {
 }
 
 /// A word of op 2 or 3 with one of the bits set that 02 calls unused in some form: with a register, but shifts and Ticc
-/// also with a constant. Other words stay. (Which bits are unused is the reader's to say, not asked here.)
+/// also with a constant; of a rdy any below its op3, of a wry also one of its rd. Other words stay. (Which bits are unused
+/// is the reader's to say, not asked here.)
 pub(crate) fn with_stray_bit(random: &mut Random, word: u32) -> u32 {
     let (op, op3) = (word >> 30, (word >> 19) & 63);
     match (op, op3) {
         (0 | 1, _) => word,
         (2, 0x3A) if random.chance(30) => word | 1 << 29,
+        (2, RDY) => word | 1 << random.between(0, 18),
+        (2, WRY) if random.chance(40) => word | 1 << random.between(25, 29),
         (2, 0x25 | 0x26 | 0x27 | 0x3A) => word | 1 << random.between(5, 12),
         _ => word & !0x3FE0 | 1 << random.between(5, 12),
     }
@@ -261,12 +270,12 @@ pub(crate) fn random_call(random: &mut Random, position: i32, count: i32) -> u32
     (1 << 30) | (displacement(random, position, count) & 0x3FFF_FFFF)
 }
 
-fn random_word(random: &mut Random, style: &[u32; 9], position: i32, program: &Program) -> u32 {
+fn random_word(random: &mut Random, style: &[u32; KINDS], position: i32, program: &Program) -> u32 {
     let word = clean_word(random, style, position, program);
     seldom_stray(random, word)
 }
 
-fn clean_word(random: &mut Random, style: &[u32; 9], position: i32, program: &Program) -> u32 {
+fn clean_word(random: &mut Random, style: &[u32; KINDS], position: i32, program: &Program) -> u32 {
     let count = program.words.len() as i32;
     match random.weighted(style) {
         BICC => {
@@ -293,10 +302,11 @@ fn clean_word(random: &mut Random, style: &[u32; 9], position: i32, program: &Pr
             0 => 0,
             // unimp, FBfcc, CBccc and the other op2 values
             1 => (random.pick(&[0, 1, 3, 5, 6, 7]) << 22) | (random.word() & 0x3E3F_FFFF),
-            // save, restore, umul, rdy, flush, swap, ldd and any other op3
+            // divisions, mulscc, other state registers than Y, rett, flush, save, restore
             2 => {
-                let op3 =
-                    random.pick(&[0x0A, 0x0B, 0x1A, 0x24, 0x28, 0x30, 0x39, 0x3B, 0x3C, 0x3D]);
+                let op3 = random.pick(&[
+                    0x0E, 0x0F, 0x1E, 0x24, RDY, 0x29, WRY, 0x31, 0x39, 0x3B, 0x3C, 0x3D,
+                ]);
                 format_3(
                     2,
                     op3,
@@ -341,6 +351,7 @@ fn clean_word(random: &mut Random, style: &[u32; 9], position: i32, program: &Pr
             };
             random_access(random, op3, rd, program)
         }
+        PRODUCT => random_product(random),
         _ => {
             debug_assert_eq!(SETHI, 8);
             let rd = number_register(random);
@@ -351,6 +362,29 @@ fn clean_word(random: &mut Random, style: &[u32; 9], position: i32, program: &Pr
             };
             (rd << 25) | (4 << 22) | value
         }
+    }
+}
+
+/// A product, rdy or wry, some to register 0; a few miss by one bit.
+fn random_product(random: &mut Random) -> u32 {
+    let rd = if random.chance(15) {
+        0
+    } else {
+        number_register(random)
+    };
+    let rs1 = number_register(random);
+    let word = match random.weighted(&[60, 20, 20]) {
+        0 => {
+            let op3 = random.pick(&[0b001010, 0b001011, 0b011010, 0b011011]);
+            format_3(2, op3, rd, rs1, any_operand(random))
+        }
+        1 => format_3(2, RDY, rd, 0, 0),
+        _ => format_3(2, WRY, 0, rs1, any_operand(random)),
+    };
+    if random.chance(8) {
+        with_stray_bit(random, word)
+    } else {
+        word
     }
 }
 
@@ -412,7 +446,7 @@ pub(crate) fn random_jmpl(random: &mut Random, program: &Program) -> u32 {
 /// or a branch names them, and jumps by addresses of the image land without one.
 fn make_blocks(random: &mut Random, program: &mut Program) {
     let count = program.words.len() as i32;
-    let body = random.pick(&[STYLES[4], STYLES[4], STYLES[2]]);
+    let body = random.pick(&[STYLES[4], STYLES[5], STYLES[2]]);
     let mut position = 0;
     while position < count {
         let length = random.between(0, 3);
@@ -598,8 +632,17 @@ pub fn random_start(random: &mut Random, program: &Program, plain: &[u32], addre
     Start {
         address,
         registers,
+        y: random_y(random),
         flags: random.below(16),
         data,
+    }
+}
+
+pub fn random_y(random: &mut Random) -> u32 {
+    if random.chance(50) {
+        random.word()
+    } else {
+        random.pick(&EDGES)
     }
 }
 
@@ -768,7 +811,7 @@ pub fn random_old_run_call(random: &mut Random) -> OldRunCall {
     };
     let (end, number) = random_end(random);
     let mut numbers = start_numbers(random, &start);
-    numbers.extend([address, next, annul, end, number]);
+    numbers.extend([address, next, annul, end, number, start.y]);
     let mut state = [0; OLD_STATE];
     state.copy_from_slice(&bytes(numbers));
     OldRunCall {
@@ -820,7 +863,7 @@ pub fn random_new_run_call(random: &mut Random) -> NewRunCall {
     };
     let (end, number) = random_end(random);
     let mut numbers = start_numbers(random, &start);
-    numbers.extend([record, held, end, number]);
+    numbers.extend([record, held, end, number, start.y]);
     let mut state = [0; NEW_STATE];
     state.copy_from_slice(&bytes(numbers));
     NewRunCall {
@@ -977,7 +1020,7 @@ pub fn random_accepted(random: &mut Random) -> (Program, Translation) {
 /// A start that differs from another in one thing, or, by register 0 or nothing, not at all.
 pub fn other_start(random: &mut Random, start: &Start, plain: &[u32]) -> Start {
     let mut other = start.clone();
-    match random.below(7) {
+    match random.below(8) {
         0 => other.address = random.pick(plain),
         1 => {
             let register = random.below(32) as usize;
@@ -990,6 +1033,7 @@ pub fn other_start(random: &mut Random, start: &Start, plain: &[u32]) -> Start {
         }
         3 | 4 => other.data.push(0),
         5 => other.registers[0] = random.word(),
+        6 => other.y ^= 1 << random.below(32),
         _ => {}
     }
     other

@@ -4,11 +4,13 @@ use crate::machine::{Area, End, Machine};
 use crate::new_core::{self, NewState, Program};
 use crate::old_core::{self, Image, OldState};
 
-/// "An entry is the address about to be executed, all registers, flags and data bytes" (demand 3).
+/// "An entry is the address about to be executed, all registers, flags and data bytes" (demand 3). 02, N4: "each
+/// trail entry" gains Y.
 #[derive(Clone, PartialEq, Eq, Debug)]
 pub struct Entry {
     pub address: u32,
     pub registers: [u32; 32],
+    pub y: u32,
     pub flags: u32,
     pub data: Vec<u8>,
 }
@@ -17,6 +19,7 @@ fn entry(address: u32, machine: &Machine, area: &Area) -> Entry {
     Entry {
         address,
         registers: *machine.registers(),
+        y: machine.y,
         flags: machine.flags.number(),
         data: area.bytes().to_vec(),
     }

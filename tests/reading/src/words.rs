@@ -48,7 +48,7 @@ pub enum Store {
 
 /// "Words known: call; sethi; the sixteen integer branches (Bicc) with the annul bit; add, addx,
 /// sub, subx, and, andn, or, orn, xor, xnor, each plain and setting flags; sll, srl, sra; jmpl; the
-/// sixteen Ticc; ld, ldub, ldsb, lduh, ldsh, st, stb, sth."
+/// sixteen Ticc; ld, ldub, ldsb, lduh, ldsh, st, stb, sth." 02, N4: "Add umul, smul, umulcc, smulcc, rdy and wry".
 ///
 /// Displacements are in bytes, modulo 2^32, and are added to the word's own address.
 #[derive(Clone, Copy, PartialEq, Eq, Debug)]
@@ -75,6 +75,21 @@ pub enum Instruction {
     Shift {
         shift: Shift,
         rd: usize,
+        rs1: usize,
+        operand: Operand,
+    },
+    Multiply {
+        signed: bool,
+        sets_flags: bool,
+        rd: usize,
+        rs1: usize,
+        operand: Operand,
+    },
+    /// Rdy has no rs1 and no operand, wry no rd.
+    ReadY {
+        rd: usize,
+    },
+    WriteY {
         rs1: usize,
         operand: Operand,
     },
@@ -130,19 +145,24 @@ pub fn decode(word: u32) -> Option<Instruction> {
 }
 
 /// 02, N2: "bits 12 to 5 when the second operand is a register, or a shift's constant; bits 12 to 7 of a
-/// Ticc with a constant; bit 29 of a Ticc".
+/// Ticc with a constant; bit 29 of a Ticc". Those of a rdy, and the rd of a wry, are N4's own.
 fn unused_bits(instruction: Instruction) -> u32 {
     const BITS_12_TO_5: u32 = 0x1FE0;
     const BITS_12_TO_7: u32 = 0x1F80;
     const BIT_29: u32 = 1 << 29;
     match instruction {
-        Instruction::Call { .. } | Instruction::Sethi { .. } | Instruction::Bicc { .. } => 0,
+        Instruction::Call { .. }
+        | Instruction::Sethi { .. }
+        | Instruction::Bicc { .. }
+        | Instruction::ReadY { .. } => 0,
         Instruction::Shift { .. } => BITS_12_TO_5,
         Instruction::Ticc { operand, .. } => match operand {
             Operand::Register(_) => BIT_29 | BITS_12_TO_5,
             Operand::Constant(_) => BIT_29 | BITS_12_TO_7,
         },
         Instruction::Arithmetic { operand, .. }
+        | Instruction::Multiply { operand, .. }
+        | Instruction::WriteY { operand, .. }
         | Instruction::Jmpl { operand, .. }
         | Instruction::Load { operand, .. }
         | Instruction::Store { operand, .. } => match operand {
@@ -242,8 +262,43 @@ fn decode_arithmetic(word: u32) -> Option<Instruction> {
             rs1,
             operand,
         }),
+        _ => decode_product(word),
+    }
+}
+
+/// 02, N4: "Add umul, smul, umulcc, smulcc, rdy and wry from V8".
+fn decode_product(word: u32) -> Option<Instruction> {
+    let multiply = |signed, sets_flags| {
+        Some(Instruction::Multiply {
+            signed,
+            sets_flags,
+            rd: bits(word, 29, 25) as usize,
+            rs1: bits(word, 18, 14) as usize,
+            operand: operand(word),
+        })
+    };
+    match bits(word, 24, 19) {
+        0b001010 => multiply(false, false),
+        0b001011 => multiply(true, false),
+        0b011010 => multiply(false, true),
+        0b011011 => multiply(true, true),
+        0b101000 => decode_read_y(word),
+        0b110000 => decode_write_y(word),
         _ => None,
     }
+}
+
+/// 02, N4: "Rdy with rs1 not 0 and wry with rd not 0 are illegal, as is rdy with any of bits 13 to 0 set."
+fn decode_read_y(word: u32) -> Option<Instruction> {
+    let clear = bits(word, 18, 14) == 0 && bits(word, 13, 0) == 0;
+    let rd = bits(word, 29, 25) as usize;
+    clear.then_some(Instruction::ReadY { rd })
+}
+
+fn decode_write_y(word: u32) -> Option<Instruction> {
+    let rs1 = bits(word, 18, 14) as usize;
+    let operand = operand(word);
+    (bits(word, 29, 25) == 0).then_some(Instruction::WriteY { rs1, operand })
 }
 
 fn decode_memory(word: u32) -> Option<Instruction> {
@@ -414,10 +469,10 @@ mod tests {
     }
 
     /// Which bits a known word may not have, set one at a time: in an add, a ld and a jmpl with a register, in a
-    /// shift with a register and with a constant, in a Ticc with each.
+    /// shift with a register and with a constant, in a Ticc and a wry with each, in products.
     #[test]
     fn each_unused_bit_is_illegal() {
-        let words: [(u32, &[u32]); 9] = [
+        let words: [(u32, &[u32]); 13] = [
             (0x8200_4002, &[5, 6, 7, 8, 9, 10, 11, 12]), // add
             (0xC200_4002, &[5, 6, 7, 8, 9, 10, 11, 12]), // ld
             (0x83C0_4002, &[5, 6, 7, 8, 9, 10, 11, 12]), // jmpl
@@ -425,6 +480,10 @@ mod tests {
             (0x8328_6000, &[5, 6, 7, 8, 9, 10, 11, 12]),
             (0x91D0_0002, &[5, 6, 7, 8, 9, 10, 11, 12, 29]), // ta
             (0x91D0_2000, &[7, 8, 9, 10, 11, 12, 29]),
+            (0x8250_4002, &[5, 6, 7, 8, 9, 10, 11, 12]), // umul
+            (0x8180_4002, &[5, 6, 7, 8, 9, 10, 11, 12, 29]), // wry
+            (0x8180_6000, &[29]),
+            (0x8258_6000, &[]), // smul with a constant
             (0x8200_6000, &[]), // add with a constant
             (0x0300_0000, &[]), // sethi
         ];
@@ -436,7 +495,23 @@ mod tests {
         }
     }
 
-    /// How many of the op, op2 and op3 values are known: 1 call, 2 of format 2, 25 and 8 of format 3.
+    /// A rdy has only its rd; a wry has none. The words are those of GNU's assembler.
+    #[test]
+    fn reading_and_writing_y() {
+        let read = 0x8F40_0000; // rd %y, %g7
+        assert_eq!(decode(read), Some(Instruction::ReadY { rd: 7 }));
+        for bit in 0..19 {
+            assert_eq!(decode(read | 1 << bit), None, "bit {bit}");
+        }
+        let write = 0x8180_E005; // wr %g3, 5, %y
+        let operand = Operand::Constant(5);
+        assert_eq!(decode(write), Some(Instruction::WriteY { rs1: 3, operand }));
+        for bit in 25..30 {
+            assert_eq!(decode(write | 1 << bit), None, "bit {bit}");
+        }
+    }
+
+    /// How many of the op, op2 and op3 values are known: 1 call, 2 of format 2, 31 and 8 of format 3.
     #[test]
     fn how_many_are_known() {
         let format_2 = (0..8).filter(|op2| decode(op2 << 22).is_some()).count();
@@ -446,6 +521,6 @@ mod tests {
         let memory = (0..64)
             .filter(|op3| decode(0xC000_0000 | (op3 << 19)).is_some())
             .count();
-        assert_eq!((format_2, arithmetic, memory), (2, 25, 8));
+        assert_eq!((format_2, arithmetic, memory), (2, 31, 8));
     }
 }

@@ -1,4 +1,4 @@
-//! 02, N2: words read to instructions of six numbers, and instructions written to words.
+//! 02, N2: words read to instructions of six numbers, and instructions written to words; N4: "N2's writer covers them".
 
 use crate::words::decode;
 
@@ -21,6 +21,8 @@ const SETHI: u32 = 4;
 const SLL: u32 = 64 * 2 + 0b100101;
 const SRA: u32 = 64 * 2 + 0b100111;
 const TICC: u32 = 64 * 2 + 0b111010;
+const RDY: u32 = 168;
+const WRY: u32 = 176;
 
 /// A field of a word: which of the six numbers it holds, its lowest bit and how many bits it has.
 #[derive(Clone, Copy, PartialEq, Eq, Debug)]
@@ -88,6 +90,10 @@ pub fn fields(form: u32, constant: bool) -> Option<Vec<Field>> {
         TICC if constant => vec![cond, rs1, mark, unsigned(SECOND, 0, 7)],
         TICC => vec![cond, rs1, mark, register],
         SLL..=SRA if constant => vec![rd, rs1, mark, unsigned(SECOND, 0, 5)],
+        // What rdy and wry do not have is 0.
+        RDY => vec![rd],
+        WRY if constant => vec![rs1, mark, signed(13)],
+        WRY => vec![rs1, mark, register],
         _ if constant => vec![rd, rs1, mark, signed(13)],
         _ => vec![rd, rs1, mark, register],
     })
@@ -192,15 +198,32 @@ mod tests {
             ([4, 0, 1, 0, 0, 1], 0x0300_0001),    // sethi
             ([165, 0, 1, 1, 1, 31], 0x8328_601F), // sll by 31
             ([192, 0, 1, 1, 0, 2], 0xC200_4002),  // ld
+            ([138, 0, 1, 2, 0, 3], 0x8250_8003),  // umul
+            ([139, 0, 1, 2, 1, 0xFFFF_FFFF], 0x8258_BFFF), // smul by -1
+            ([154, 0, 31, 30, 0, 29], 0xBED7_801D), // umulcc
+            ([155, 0, 31, 30, 1, 4095], 0xBEDF_AFFF), // smulcc
+            ([168, 0, 7, 0, 0, 0], 0x8F40_0000),  // rdy
+            ([176, 0, 0, 3, 1, 5], 0x8180_E005),  // wry
+            ([176, 0, 0, 31, 0, 2], 0x8187_C002),
         ];
         for (numbers, word) in known {
             assert_eq!(written(numbers), (0, word));
             assert_eq!(read(word), numbers);
         }
-        for unknown in [0, 0x8200_4022, 0xB1D0_2000, 0x0040_0000] {
+        // among them a rdy with rs1 1, with a constant 0 and with bit 0, and a wry with rd 1
+        for unknown in [
+            0,
+            0x8200_4022,
+            0xB1D0_2000,
+            0x0040_0000,
+            0x8F40_4000,
+            0x8F40_2000,
+            0x8F40_0001,
+            0x8380_E005,
+        ] {
             assert_eq!(read(unknown), [0; 6]);
         }
-        assert_eq!(forms().len(), 3 + 25 + 8);
+        assert_eq!(forms().len(), 3 + 31 + 8);
     }
 
     /// The last number that fits a field, the first that does not, and which of several counts.
@@ -222,7 +245,13 @@ mod tests {
             ([4, 0, 31, 0, 0, 1 << 22], 22),
             ([0, 0, 0, 0, 0, 0], 0),
             ([65, 0, 0, 0, 0, 0], 0),
-            ([168, 99, 99, 99, 99, 99], 0),
+            ([169, 99, 99, 99, 99, 99], 0),
+            ([138, 0, 32, 32, 1, 4096], 5),
+            ([155, 0, 31, 31, 1, 4096], 13),
+            ([168, 99, 32, 99, 99, 99], 5),
+            ([176, 99, 99, 32, 1, 4096], 5),
+            ([176, 99, 99, 31, 1, 4096], 13),
+            ([176, 99, 99, 31, 0, 32], 5),
             ([256, 0, 0, 0, 0, 0], 0),
         ];
         for (numbers, bits) in refused {
@@ -236,6 +265,8 @@ mod tests {
             [2, 5, 15, 99, 99, 0u32.wrapping_sub(1 << 21)],
             [64, 99, 99, 99, 99, 0u32.wrapping_sub(1 << 29)],
             [4, 99, 31, 99, 99, (1 << 22) - 1],
+            [168, 99, 31, 99, 99, 99],
+            [176, 99, 99, 31, 99, 4095],
         ];
         for numbers in fitting {
             assert_eq!(write(numbers).number, 0, "{numbers:?}");
@@ -245,7 +276,9 @@ mod tests {
     /// A known word may have any bit of a field set, and none that is neither a field's nor its form's.
     #[test]
     fn the_other_bits_are_unused() {
-        for (form, constant) in forms().into_iter().flat_map(|f| [(f, false), (f, true)]) {
+        let both = forms().into_iter().flat_map(|f| [(f, false), (f, true)]);
+        // a rdy has no constant
+        for (form, constant) in both.filter(|pair| *pair != (RDY, true)) {
             let word = fixed_bits(form) | ((constant as u32) << 13);
             let form_bits: u32 = match form / 64 {
                 0 => 0xC1C0_0000,

@@ -1,6 +1,7 @@
 //! 01's listing and its cases P1 to P11.
 
 use reading::claim::{check, Start};
+use reading::interface::{new_begin_call, old_begin_call};
 use reading::listing::listing;
 use reading::machine::{Area, End, Machine};
 use reading::new_core::{self, Program};
@@ -108,7 +109,7 @@ fn p4_p5_annulled_where_the_condition_fails() {
     let clear = trail_from_0(&words, Machine::start(), 100);
     assert_eq!(addresses(&clear), [0, 8]);
     assert_eq!(clear.steps, [2, 1]);
-    let set = trail_from_0(&words, Machine::of([0; 32], flags(4)), 100);
+    let set = trail_from_0(&words, Machine::of([0; 32], 0, flags(4)), 100);
     assert_eq!(addresses(&set), [0, 4, 16]);
 }
 
@@ -138,6 +139,62 @@ fn p8_p9_flags() {
     let state = step_word(0x8280_6001, machine);
     assert_eq!(state.machine.read(1), 2_147_483_648);
     assert_eq!(state.machine.flags, flags(8 + 2));
+}
+
+/// 02, N4: single words, each with its rd, Y and flags by hand; register 1 is 2^31, register 2 is -2, Y 7 and all flags
+/// set before.
+#[test]
+fn products_and_y() {
+    let mut machine = Machine::of([0; 32], 7, flags(15));
+    machine.write(1, 0x8000_0000);
+    machine.write(2, 0xFFFF_FFFE);
+    for (word, rd, result, y, set) in [
+        (0x8650_4002, 3, 0, 0x7FFF_FFFF, 15),          // umul
+        (0x8658_4002, 3, 0, 1, 15),                    // smul
+        (0x86D0_4002, 3, 0, 0x7FFF_FFFF, 4),           // umulcc
+        (0x86D8_4002, 3, 0, 1, 4),                     // smulcc
+        (0x84D8_A003, 2, 0xFFFF_FFFA, 0xFFFF_FFFF, 8), // smulcc by 3, to itself
+        (0x86D0_BFFF, 3, 2, 0xFFFF_FFFD, 0),           // umulcc by 2^32 - 1
+        (0x80D0_4001, 0, 0, 0x4000_0000, 4),           // umulcc to register 0
+        (0x80D8_4001, 0, 0, 0x4000_0000, 4),           // smulcc to register 0
+        (0x8740_0000, 3, 7, 7, 15),                    // rdy
+        (0x8140_0000, 0, 0, 7, 15),                    // rdy to register 0
+        (0x8180_4002, 3, 0, 0x7FFF_FFFE, 15),          // wry
+        (0x8180_BFFF, 3, 0, 1, 15),                    // wry of register 2 xor -1
+    ] {
+        let state = step_word(word, machine.clone());
+        let here = (state.machine.read(rd), state.machine.y, state.machine.flags);
+        assert_eq!(here, (result, y, flags(set)), "{word:x}");
+        assert_eq!((state.pc, state.end), (4, End::Going), "{word:x}");
+    }
+}
+
+/// 02, N4: "no end changes it", and neither core's begin does; "without delay": the word behind a wry reads what it wrote.
+#[test]
+fn y_stays_and_comes_at_once() {
+    // wry of register 0 xor 9, rdy to register 1, ta 0
+    let words = [0x8180_2009, 0x8340_0000, TA];
+    let trail = trail_from_0(&words, Machine::of([0; 32], 7, flags(0)), 9);
+    let shown: Vec<u32> = trail.entries.iter().map(|entry| entry.y).collect();
+    assert_eq!((shown, trail.close), (vec![7, 9, 9], (1, 0)));
+    assert_eq!(trail.entries[2].registers[1], 9);
+    // a trap, a misaligned jmpl, an illegal word, a load that does not fit
+    for word in [TA, 0x81C0_2002, 0, 0xC200_2000] {
+        let state = step_word(word, Machine::of([0; 32], 7, flags(0)));
+        assert!(state.end != End::Going && state.machine.y == 7, "{word:x}");
+    }
+    let mut bytes = [0xFF; NEW_STATE];
+    let nowhere = Program {
+        records: &[],
+        places: &[],
+        base: 0,
+        image_length: 0,
+    };
+    new_begin_call(nowhere, 4, &mut bytes);
+    assert_eq!(bytes[148..], [0xFF; 4]);
+    let mut bytes = [0xFF; OLD_STATE];
+    old_begin_call(4, &mut bytes);
+    assert_eq!(bytes[152..], [0xFF; 4]);
 }
 
 #[test]
@@ -342,7 +399,9 @@ fn state_bytes() {
     let mut ended = [0; NEW_STATE];
     ended[143] = 7;
     ended[147] = 9;
+    ended[151] = 5;
     assert_eq!(decode_new(&ended).end, End::BadRecord(9));
+    assert_eq!(decode_new(&ended).machine.y, 5);
     assert_eq!(encode_new(&decode_new(&ended)), ended);
 }
 
@@ -380,8 +439,13 @@ fn bad_records() {
         let stands = run_from_0(&[[5, 1, 0], record].concat());
         assert_eq!(stands, (End::BadRecord(1), 1), "{record:?}");
     }
-    // bn without annul is a word that kind 1 does.
-    assert_eq!(run_from_0(&[1, 0x0080_0000, 0]), (End::BadRecord(1), 1));
+    // bn without annul is a word that kind 1 does, and so are products, rdy and wry, but not those that are illegal.
+    for word in [0x0080_0000, 0x8650_4002, 0x8140_0000, 0x8180_4002] {
+        assert_eq!(run_from_0(&[1, word, 0]), (End::BadRecord(1), 1));
+    }
+    for word in [0x8140_4000, 0x8140_2000, 0x8140_0001, 0x8380_4002] {
+        assert_eq!(run_from_0(&[1, word, 0]), (End::BadRecord(0), 0));
+    }
 }
 
 /// A start shows register 0 as 0 and the low four flag bits.
@@ -390,9 +454,11 @@ fn starts() {
     let start = Start {
         address: 0,
         registers: [5; 32],
+        y: 6,
         flags: 0x19,
         data: vec![],
     };
     assert_eq!(start.machine().read(0), 0);
+    assert_eq!(start.machine().y, 6);
     assert_eq!(start.machine().flags, flags(9));
 }

@@ -90,6 +90,18 @@ add-six-with-4 c = search needs
 six-with-requires-6 : tie.Need-six-with-requires-6
 six-with-requires-6 c κs = search needs
 
+enum-known-i-10 : tie.Need-enum-known-i-10
+enum-known-i-10 c = search needs
+
+plain-six-requires-5 : tie.Need-plain-six-requires-5
+plain-six-requires-5 c κs = search needs
+
+enum-known-i-11 : tie.Need-enum-known-i-11
+enum-known-i-11 c = search needs
+
+six-with-requires-7 : tie.Need-six-with-requires-7
+six-with-requires-7 c κs = search needs
+
 returns : tie.Need-returns
 unfolding sixOf
 returns c = rw (c .before .enum-told .given .1) (c .plain-six .ensures)
@@ -130,6 +142,14 @@ returns-10 : tie.Need-returns-10
 unfolding sixOf
 returns-10 c = rw (c .before .before .before .i9 .given .1, ← c .before .shift-op3 .ensures .0) (c .six-with6 .ensures)
 
+returns-11 : tie.Need-returns-11
+unfolding sixOf
+returns-11 c = rw (c .before .before .i10 .given .1) (c .plain-six5 .ensures)
+
+returns-12 : tie.Need-returns-12
+unfolding sixOf
+returns-12 c = rw (c .before .before .i11 .given .1) (c .six-with7 .ensures)
+
 pub six-of-spec : {M : Type 1} → statement M
 six-of-spec =
     tie.close
@@ -163,6 +183,10 @@ six-of-spec =
     shift-op3-requires
     add-six-with-4
     six-with-requires-6
+    enum-known-i-10
+    plain-six-requires-5
+    enum-known-i-11
+    six-with-requires-7
     returns
     returns-2
     returns-3
@@ -172,4 +196,6 @@ six-of-spec =
     returns-7
     returns-8
     returns-9
-    returns-10)
+    returns-10
+    returns-11
+    returns-12)

@@ -30,22 +30,58 @@ returns-2 c =
       lt-ltb _ _ (c .before .if3 .taken),
     ) (c .shift-word .ensures)
 
-long-word-requires : tie.Need-long-word-requires
-long-word-requires c κs = search needs
+rdy-word-requires : tie.Need-rdy-word-requires
+rdy-word-requires c κs = search needs
 
 returns-3 : tie.Need-returns-3
 returns-3 c =
+    let d = c .before .before in
     rw (
       form-2 _ _ _ _,
-      ← c .before .before .before .before .before .is-form2 .ensures _ _,
-      c .before .before .before .before .if1 .taken,
-      ne-eqb _ _ (c .before .before .before .if2 .left),
-      ← c .before .before .subtract .ensures,
-      le-ltb _ _ (c .before .if3 .left),
-    ) (c .long-word .ensures)
+      ← d .before .before .before .before .is-form2 .ensures _ _,
+      d .before .before .before .if1 .taken,
+      ne-eqb _ _ (d .before .before .if2 .left),
+      ← d .before .subtract .ensures,
+      le-ltb _ _ (d .if3 .left),
+      eq-eqb _ _ (c .before .if4 .taken),
+    ) (c .rdy-word .ensures)
+
+wry-word-requires : tie.Need-wry-word-requires
+wry-word-requires c κs = search needs
 
 returns-4 : tie.Need-returns-4
-returns-4 c = rw (form-2 _ _ _ _, ← c .before .is-form2 .ensures _ _, c .if1 .left)
+returns-4 c =
+    let d = c .before .before .before in
+    rw (
+      form-2 _ _ _ _,
+      ← d .before .before .before .before .is-form2 .ensures _ _,
+      d .before .before .before .if1 .taken,
+      ne-eqb _ _ (d .before .before .if2 .left),
+      ← d .before .subtract .ensures,
+      le-ltb _ _ (d .if3 .left),
+      ne-eqb _ _ (c .before .before .if4 .left),
+      eq-eqb _ _ (c .before .if5 .taken),
+    ) (c .wry-word .ensures)
+
+long-word-requires : tie.Need-long-word-requires
+long-word-requires c κs = search needs
+
+returns-5 : tie.Need-returns-5
+returns-5 c =
+    let d = c .before .before .before in
+    rw (
+      form-2 _ _ _ _,
+      ← d .before .before .before .before .is-form2 .ensures _ _,
+      d .before .before .before .if1 .taken,
+      ne-eqb _ _ (d .before .before .if2 .left),
+      ← d .before .subtract .ensures,
+      le-ltb _ _ (d .if3 .left),
+      ne-eqb _ _ (c .before .before .if4 .left),
+      ne-eqb _ _ (c .before .if5 .left),
+    ) (c .long-word .ensures)
+
+returns-6 : tie.Need-returns-6
+returns-6 c = rw (form-2 _ _ _ _, ← c .before .is-form2 .ensures _ _, c .if1 .left)
 
 pub write2-spec : {M : Type 1} → statement M
 write2-spec =
@@ -57,6 +93,10 @@ write2-spec =
     subtract-requires
     shift-word-requires
     returns-2
-    long-word-requires
+    rdy-word-requires
     returns-3
-    returns-4)
+    wry-word-requires
+    returns-4
+    long-word-requires
+    returns-5
+    returns-6)

@@ -8,111 +8,135 @@ use Rattle.words.proofs.flow2.Statement.{statement}
 use Rattle.words.proofs.flow2.Tie as tie
 
 trap-flow-requires : tie.Need-trap-flow-requires
-trap-flow-requires c κs = beside-none _ _ (c .before .pre)
+trap-flow-requires c κs = beside-none _ _ (c .before .pre .0)
 
 returns : tie.Need-returns
 unfolding flowOf format2Of strictly unusedSet
-returns c = λ rs1 x. rw (c .match .keys1, beside-none _ _ (c .before .pre))
+returns c = λ rs1 x. rw (c .match .keys1, beside-none _ _ (c .before .pre .0))
 
 returns-2 : tie.Need-returns-2
 unfolding flowOf format2Of strictly unusedSet
-returns-2 c = λ rs1 x. rw (c .match .keys2, beside-none _ _ (c .before .pre))
+returns-2 c = λ rs1 x. rw (c .match .keys2, beside-none _ _ (c .before .pre .0))
 
 returns-3 : tie.Need-returns-3
 unfolding flowOf format2Of strictly unusedSet
-returns-3 c = λ rs1 x. rw (c .match .keys3, beside-none _ _ (c .before .pre))
+returns-3 c = λ rs1 x. rw (c .match .keys3, beside-none _ _ (c .before .pre .0))
 
 returns-4 : tie.Need-returns-4
 unfolding flowOf format2Of strictly unusedSet
-returns-4 c = λ rs1 x. rw (c .match .keys4, beside-none _ _ (c .before .pre))
+returns-4 c = λ rs1 x. rw (c .match .keys4, beside-none _ _ (c .before .pre .0))
 
 returns-5 : tie.Need-returns-5
 unfolding flowOf format2Of strictly unusedSet
-returns-5 c = λ rs1 x. rw (c .match .keys5, beside-none _ _ (c .before .pre))
+returns-5 c = λ rs1 x. rw (c .match .keys5, beside-none _ _ (c .before .pre .0))
 
 returns-6 : tie.Need-returns-6
 unfolding flowOf format2Of strictly unusedSet
-returns-6 c = λ rs1 x. rw (c .match .keys6, beside-none _ _ (c .before .pre))
+returns-6 c = λ rs1 x. rw (c .match .keys6, beside-none _ _ (c .before .pre .0))
 
 returns-7 : tie.Need-returns-7
 unfolding flowOf format2Of strictly unusedSet
-returns-7 c = λ rs1 x. rw (c .match .keys7, beside-none _ _ (c .before .pre))
+returns-7 c = λ rs1 x. rw (c .match .keys7, beside-none _ _ (c .before .pre .0))
 
 returns-8 : tie.Need-returns-8
 unfolding flowOf format2Of strictly unusedSet
-returns-8 c = λ rs1 x. rw (c .match .keys8, beside-none _ _ (c .before .pre))
+returns-8 c = λ rs1 x. rw (c .match .keys8, beside-none _ _ (c .before .pre .0))
 
 returns-9 : tie.Need-returns-9
 unfolding flowOf format2Of strictly unusedSet
-returns-9 c = λ rs1 x. rw (c .match .keys9, beside-none _ _ (c .before .pre))
+returns-9 c = λ rs1 x. rw (c .match .keys9, beside-none _ _ (c .before .pre .0))
 
 returns-10 : tie.Need-returns-10
 unfolding flowOf format2Of strictly unusedSet
-returns-10 c = λ rs1 x. rw (c .match .keys10, beside-none _ _ (c .before .pre))
+returns-10 c = λ rs1 x. rw (c .match .keys10, beside-none _ _ (c .before .pre .0))
 
 returns-11 : tie.Need-returns-11
 unfolding flowOf format2Of strictly unusedSet
-returns-11 c = λ rs1 x. rw (c .match .keys11, beside-none _ _ (c .before .pre))
+returns-11 c = λ rs1 x. rw (c .match .keys11, beside-none _ _ (c .before .pre .0))
 
 returns-12 : tie.Need-returns-12
 unfolding flowOf format2Of strictly unusedSet
-returns-12 c = λ rs1 x. rw (c .match .keys12, beside-none _ _ (c .before .pre))
+returns-12 c = λ rs1 x. rw (c .match .keys12, beside-none _ _ (c .before .pre .0))
 
 returns-13 : tie.Need-returns-13
 unfolding flowOf format2Of strictly unusedSet
-returns-13 c = λ rs1 x. rw (c .match .keys13, beside-none _ _ (c .before .pre))
+returns-13 c = λ rs1 x. rw (c .match .keys13, beside-none _ _ (c .before .pre .0))
 
 returns-14 : tie.Need-returns-14
 unfolding flowOf format2Of strictly unusedSet
-returns-14 c = λ rs1 x. rw (c .match .keys14, beside-none _ _ (c .before .pre))
+returns-14 c = λ rs1 x. rw (c .match .keys14, beside-none _ _ (c .before .pre .0))
 
 returns-15 : tie.Need-returns-15
 unfolding flowOf format2Of strictly unusedSet
-returns-15 c = λ rs1 x. rw (c .match .keys15, beside-none _ _ (c .before .pre))
+returns-15 c = λ rs1 x. rw (c .match .keys15, beside-none _ _ (c .before .pre .0))
 
 returns-16 : tie.Need-returns-16
 unfolding flowOf format2Of strictly unusedSet
-returns-16 c = λ rs1 x. rw (c .match .keys16, beside-none _ _ (c .before .pre))
+returns-16 c = λ rs1 x. rw (c .match .keys16, beside-none _ _ (c .before .pre .0))
 
 returns-17 : tie.Need-returns-17
 unfolding flowOf format2Of strictly unusedSet
-returns-17 c = λ rs1 x. rw (c .match .keys17, beside-none _ _ (c .before .pre))
+returns-17 c = λ rs1 x. rw (c .match .keys17, beside-none _ _ (c .before .pre .0))
 
 returns-18 : tie.Need-returns-18
 unfolding flowOf format2Of strictly unusedSet
-returns-18 c = λ rs1 x. rw (c .match .keys18, beside-none _ _ (c .before .pre))
+returns-18 c = λ rs1 x. rw (c .match .keys18, beside-none _ _ (c .before .pre .0))
 
 returns-19 : tie.Need-returns-19
 unfolding flowOf format2Of strictly unusedSet
-returns-19 c = λ rs1 x. rw (c .match .keys19, beside-none _ _ (c .before .pre))
+returns-19 c = λ rs1 x. rw (c .match .keys19, beside-none _ _ (c .before .pre .0))
 
 returns-20 : tie.Need-returns-20
 unfolding flowOf format2Of strictly unusedSet
-returns-20 c = λ rs1 x. rw (c .match .keys20, beside-none _ _ (c .before .pre))
+returns-20 c = λ rs1 x. rw (c .match .keys20, beside-none _ _ (c .before .pre .0))
 
 returns-21 : tie.Need-returns-21
 unfolding flowOf format2Of strictly unusedSet
-returns-21 c = λ rs1 x. rw (c .match .keys21, shift-none _ _ (c .before .pre) (omega (arith, c .match .keys21)) (omega (arith, c .match .keys21)))
+returns-21 c = λ rs1 x. rw (c .match .keys21, beside-none _ _ (c .before .pre .0))
 
 returns-22 : tie.Need-returns-22
 unfolding flowOf format2Of strictly unusedSet
-returns-22 c = λ rs1 x. rw (c .match .keys22, shift-none _ _ (c .before .pre) (omega (arith, c .match .keys22)) (omega (arith, c .match .keys22)))
+returns-22 c = λ rs1 x. rw (c .match .keys22, beside-none _ _ (c .before .pre .0))
 
 returns-23 : tie.Need-returns-23
 unfolding flowOf format2Of strictly unusedSet
-returns-23 c = λ rs1 x. rw (c .match .keys23, shift-none _ _ (c .before .pre) (omega (arith, c .match .keys23)) (omega (arith, c .match .keys23)))
+returns-23 c = λ rs1 x. rw (c .match .keys23, beside-none _ _ (c .before .pre .0))
 
 returns-24 : tie.Need-returns-24
 unfolding flowOf format2Of strictly unusedSet
-returns-24 c = λ rs1 x. rw (c .match .keys24, beside-none _ _ (c .before .pre))
+returns-24 c = λ rs1 x. rw (c .match .keys24, beside-none _ _ (c .before .pre .0))
 
 returns-25 : tie.Need-returns-25
-unfolding format2Of
-returns-25 c = λ rs1 x. rw (c .before .match .keys25) (c .trap-flow .ensures rs1 x)
+unfolding flowOf format2Of strictly unusedSet
+returns-25 c = λ rs1 x. rw (c .match .keys25, shift-none _ _ (c .before .pre .0) (omega (arith, c .match .keys25)) (omega (arith, c .match .keys25)))
 
 returns-26 : tie.Need-returns-26
+unfolding flowOf format2Of strictly unusedSet
+returns-26 c = λ rs1 x. rw (c .match .keys26, shift-none _ _ (c .before .pre .0) (omega (arith, c .match .keys26)) (omega (arith, c .match .keys26)))
+
+returns-27 : tie.Need-returns-27
+unfolding flowOf format2Of strictly unusedSet
+returns-27 c = λ rs1 x. rw (c .match .keys27, shift-none _ _ (c .before .pre .0) (omega (arith, c .match .keys27)) (omega (arith, c .match .keys27)))
+
+returns-28 : tie.Need-returns-28
+unfolding flowOf format2Of strictly unusedSet
+returns-28 c = λ rs1 x. rw (c .match .keys28, c .before .pre .1 (c .match .keys28))
+
+returns-29 : tie.Need-returns-29
+unfolding flowOf format2Of strictly unusedSet
+returns-29 c = λ rs1 x. rw (c .match .keys29, beside-none _ _ (c .before .pre .0), c .before .pre .2 (c .match .keys29))
+
+returns-30 : tie.Need-returns-30
+unfolding flowOf format2Of strictly unusedSet
+returns-30 c = λ rs1 x. rw (c .match .keys30, beside-none _ _ (c .before .pre .0))
+
+returns-31 : tie.Need-returns-31
+unfolding format2Of
+returns-31 c = λ rs1 x. rw (c .before .match .keys31) (c .trap-flow .ensures rs1 x)
+
+returns-32 : tie.Need-returns-32
 unfolding flowOf strictly unusedSet
-returns-26 c = λ rs1 x. ap (λ i. flowOf (strictly (c .before .args .word) i)) (no-row2 _ _ _ rs1 x (c .match .rest))
+returns-32 c = λ rs1 x. ap (λ i. flowOf (strictly (c .before .args .word) i)) (no-row2 _ _ _ rs1 x (c .match .rest))
 
 pub flow2-spec : {M : Type 1} → statement M
 flow2-spec =
@@ -144,4 +168,10 @@ flow2-spec =
     returns-23
     returns-24
     returns-25
-    returns-26)
+    returns-26
+    returns-27
+    returns-28
+    returns-29
+    returns-30
+    returns-31
+    returns-32)

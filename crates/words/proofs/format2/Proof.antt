@@ -65,6 +65,18 @@ arithmetic-requires-19 c κs = search needs
 arithmetic-requires-20 : tie.Need-arithmetic-requires-20
 arithmetic-requires-20 c κs = search needs
 
+arithmetic-requires-21 : tie.Need-arithmetic-requires-21
+arithmetic-requires-21 c κs = search needs
+
+arithmetic-requires-22 : tie.Need-arithmetic-requires-22
+arithmetic-requires-22 c κs = search needs
+
+arithmetic-requires-23 : tie.Need-arithmetic-requires-23
+arithmetic-requires-23 c κs = search needs
+
+arithmetic-requires-24 : tie.Need-arithmetic-requires-24
+arithmetic-requires-24 c κs = search needs
+
 shift-requires : tie.Need-shift-requires
 shift-requires c κs = search needs
 
@@ -73,6 +85,12 @@ shift-requires-2 c κs = search needs
 
 shift-requires-3 : tie.Need-shift-requires-3
 shift-requires-3 c κs = search needs
+
+rdy-requires : tie.Need-rdy-requires
+rdy-requires c κs = search needs
+
+wry-requires : tie.Need-wry-requires
+wry-requires c κs = search needs
 
 jump-requires : tie.Need-jump-requires
 jump-requires c κs = search needs
@@ -162,27 +180,51 @@ returns-20 c = rw (c .before .match .keys20) (c .arithmetic20 .ensures)
 
 returns-21 : tie.Need-returns-21
 unfolding format2Of
-returns-21 c = rw (c .before .match .keys21) (c .shift .ensures)
+returns-21 c = rw (c .before .match .keys21) (c .arithmetic21 .ensures)
 
 returns-22 : tie.Need-returns-22
 unfolding format2Of
-returns-22 c = rw (c .before .match .keys22) (c .shift2 .ensures)
+returns-22 c = rw (c .before .match .keys22) (c .arithmetic22 .ensures)
 
 returns-23 : tie.Need-returns-23
 unfolding format2Of
-returns-23 c = rw (c .before .match .keys23) (c .shift3 .ensures)
+returns-23 c = rw (c .before .match .keys23) (c .arithmetic23 .ensures)
 
 returns-24 : tie.Need-returns-24
 unfolding format2Of
-returns-24 c = rw (c .before .match .keys24) (c .jump .ensures)
+returns-24 c = rw (c .before .match .keys24) (c .arithmetic24 .ensures)
 
 returns-25 : tie.Need-returns-25
 unfolding format2Of
-returns-25 c = rw (c .before .match .keys25) (c .trap .ensures)
+returns-25 c = rw (c .before .match .keys25) (c .shift .ensures)
 
 returns-26 : tie.Need-returns-26
+unfolding format2Of
+returns-26 c = rw (c .before .match .keys26) (c .shift2 .ensures)
+
+returns-27 : tie.Need-returns-27
+unfolding format2Of
+returns-27 c = rw (c .before .match .keys27) (c .shift3 .ensures)
+
+returns-28 : tie.Need-returns-28
+unfolding format2Of
+returns-28 c = rw (c .before .match .keys28) (c .rdy .ensures)
+
+returns-29 : tie.Need-returns-29
+unfolding format2Of
+returns-29 c = rw (c .before .match .keys29) (c .wry .ensures)
+
+returns-30 : tie.Need-returns-30
+unfolding format2Of
+returns-30 c = rw (c .before .match .keys30) (c .jump .ensures)
+
+returns-31 : tie.Need-returns-31
+unfolding format2Of
+returns-31 c = rw (c .before .match .keys31) (c .trap .ensures)
+
+returns-32 : tie.Need-returns-32
 unfolding strictly unusedSet
-returns-26 c = ap (strictly (c .before .args .word)) (no-row2 _ _ _ _ _ (c .match .rest))
+returns-32 c = ap (strictly (c .before .args .word)) (no-row2 _ _ _ _ _ (c .match .rest))
 
 pub format2-spec : {M : Type 1} → statement M
 format2-spec =
@@ -208,9 +250,15 @@ format2-spec =
     arithmetic-requires-18
     arithmetic-requires-19
     arithmetic-requires-20
+    arithmetic-requires-21
+    arithmetic-requires-22
+    arithmetic-requires-23
+    arithmetic-requires-24
     shift-requires
     shift-requires-2
     shift-requires-3
+    rdy-requires
+    wry-requires
     jump-requires
     trap-requires
     returns
@@ -238,4 +286,10 @@ format2-spec =
     returns-23
     returns-24
     returns-25
-    returns-26)
+    returns-26
+    returns-27
+    returns-28
+    returns-29
+    returns-30
+    returns-31
+    returns-32)

@@ -1,12 +1,12 @@
 use mathlib.Core.Path.{ap, _∙_}
 use Rattle.words.specs.Flow.{isKnown, flowOf}
-use Rattle.words.proofs.Strict.{nothing-set, nothing-strays}
+use Rattle.words.proofs.Strict.{nothing-set, nothing-strays, nothing-strays-y}
 use borrow.Author.Needs.{needs}
 use Rattle.words.proofs.is_form2.Statement.{statement}
 use Rattle.words.proofs.is_form2.Tie as tie
 
 flow2-requires : tie.Need-flow2-requires
-flow2-requires c κs = nothing-strays _
+flow2-requires c κs = (nothing-strays _, λ e. nothing-strays-y .0, λ e. nothing-strays-y .1)
 
 is-known-requires : tie.Need-is-known-requires
 is-known-requires c κs = search needs

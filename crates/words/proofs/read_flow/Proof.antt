@@ -39,24 +39,16 @@ returns-3 c = ap flowOf (strays-flow _ (omega (arith, c .before .before .before 
 op3-requires-2 : tie.Need-op3-requires-2
 op3-requires-2 c κs = search needs
 
-cond-requires : tie.Need-cond-requires
-cond-requires c κs = search needs
-
-rd-requires : tie.Need-rd-requires
-rd-requires c κs = search needs
-
-flow2-requires : tie.Need-flow2-requires
-flow2-requires c κs = rw (c .before .before .op32 .ensures, ← c .before .before .before .before .before .before .op3 .ensures) (sym (c .before .before .before .before .before .operand-strays .ensures) ∙ c .before .before .before .before .if3 .left)
+flow2-or-y-requires : tie.Need-flow2-or-y-requires
+flow2-or-y-requires c κs = rw (c .op32 .ensures, ← c .before .before .before .before .op3 .ensures) (sym (c .before .before .before .operand-strays .ensures) ∙ c .before .before .if3 .left)
 
 returns-4 : tie.Need-returns-4
 unfolding byFormat
 returns-4 c =
     rw (
-      by-op _ _ 2 (c .before .before .before .before .before .before .before .before .before .op .ensures) (c .before .before .before .before .if4 .taken),
-      ← c .before .before .before .op32 .ensures,
-      ← c .before .before .cond .ensures,
-      ← c .before .rd .ensures,
-    ) (c .flow2 .ensures _ _)
+      by-op _ _ 2 (c .before .before .before .before .before .before .before .op .ensures) (c .before .before .if4 .taken),
+      ← c .before .op32 .ensures,
+    ) (c .flow2-or-y .ensures _ _)
 
 op3-requires-3 : tie.Need-op3-requires-3
 op3-requires-3 c κs = search needs
@@ -85,9 +77,7 @@ read-flow-spec =
     operand-strays-requires
     returns-3
     op3-requires-2
-    cond-requires
-    rd-requires
-    flow2-requires
+    flow2-or-y-requires
     returns-4
     op3-requires-3
     flow3-requires

@@ -72,6 +72,18 @@ shift-op3-requires c κs = search needs
 shift-word-requires : tie.Need-shift-word-requires
 shift-word-requires c κs = search needs
 
+enum-known-i-10 : tie.Need-enum-known-i-10
+enum-known-i-10 c = search needs
+
+rdy-word-requires : tie.Need-rdy-word-requires
+rdy-word-requires c κs = search needs
+
+enum-known-i-11 : tie.Need-enum-known-i-11
+enum-known-i-11 c = search needs
+
+wry-word-requires : tie.Need-wry-word-requires
+wry-word-requires c κs = search needs
+
 returns : tie.Need-returns
 unfolding writtenOf
 returns c = rw (c .enum-told .given .1)
@@ -112,6 +124,14 @@ returns-10 : tie.Need-returns-10
 unfolding writtenOf
 returns-10 c = rw (c .before .before .before .i9 .given .1, ← c .before .shift-op3 .ensures .0) (c .shift-word .ensures)
 
+returns-11 : tie.Need-returns-11
+unfolding writtenOf
+returns-11 c = rw (c .before .before .i10 .given .1) (c .rdy-word .ensures)
+
+returns-12 : tie.Need-returns-12
+unfolding writtenOf
+returns-12 c = rw (c .before .before .i11 .given .1) (c .wry-word .ensures)
+
 pub write-instruction-spec : {M : Type 1} → statement M
 write-instruction-spec =
     tie.close
@@ -139,6 +159,10 @@ write-instruction-spec =
     enum-known-i-9
     shift-op3-requires
     shift-word-requires
+    enum-known-i-10
+    rdy-word-requires
+    enum-known-i-11
+    wry-word-requires
     returns
     returns-2
     returns-3
@@ -148,4 +172,6 @@ write-instruction-spec =
     returns-7
     returns-8
     returns-9
-    returns-10)
+    returns-10
+    returns-11
+    returns-12)

@@ -18,6 +18,9 @@ number-requires-2 c κs = search needs
 add-image : tie.Need-add-image
 add-image c = search needs
 
+add-image-2 : tie.Need-add-image-2
+add-image-2 c = search needs
+
 padded-requires : tie.Need-padded-requires
 padded-requires c κs = search needs
 
@@ -58,6 +61,7 @@ locate-spec =
     add-number-2
     number-requires-2
     add-image
+    add-image-2
     padded-requires
     add-before
     padded-requires-2

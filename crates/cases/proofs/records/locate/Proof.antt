@@ -24,6 +24,9 @@ number-requires-3 c κs = search needs
 add-places : tie.Need-add-places
 add-places c = search needs
 
+add-places-2 : tie.Need-add-places-2
+add-places-2 c = search needs
+
 padded-requires : tie.Need-padded-requires
 padded-requires c κs = search needs
 
@@ -76,6 +79,7 @@ locate-spec =
     add-number-3
     number-requires-3
     add-places
+    add-places-2
     padded-requires
     add-records
     padded-requires-2

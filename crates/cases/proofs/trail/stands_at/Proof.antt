@@ -13,6 +13,12 @@ number-requires-2 c κs = search needs
 number-requires-3 : tie.Need-number-requires-3
 number-requires-3 c κs = search needs
 
+number-requires-4 : tie.Need-number-requires-4
+number-requires-4 c κs = search needs
+
+number-requires-5 : tie.Need-number-requires-5
+number-requires-5 c κs = search needs
+
 part-requires : tie.Need-part-requires
 part-requires c κs = search needs
 
@@ -24,7 +30,18 @@ same-requires c κs = search needs
 
 returns : tie.Need-returns
 unfolding standsAt
-returns c = rw (is-same _ _ _ (c .same .ensures), c .before .part2 .ensures, c .before .before .part .ensures, c .before .before .before .number3 .ensures, c .before .before .before .before .number2 .ensures, c .before .before .before .before .before .number .ensures)
+returns c =
+    let n = c .before .before .before in
+    rw (
+      is-same _ _ _ (c .same .ensures),
+      c .before .part2 .ensures,
+      c .before .before .part .ensures,
+      n .number5 .ensures,
+      n .before .number4 .ensures,
+      n .before .before .number3 .ensures,
+      n .before .before .before .number2 .ensures,
+      n .before .before .before .before .number .ensures,
+    )
 
 pub stands-at-spec : {M : Type 1} → statement M
 stands-at-spec =
@@ -33,6 +50,8 @@ stands-at-spec =
     number-requires
     number-requires-2
     number-requires-3
+    number-requires-4
+    number-requires-5
     part-requires
     part-requires-2
     same-requires

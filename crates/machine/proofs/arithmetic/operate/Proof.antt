@@ -114,6 +114,18 @@ carry-requires-2 c κs = search needs
 subtract-word-requires-2 : tie.Need-subtract-word-requires-2
 subtract-word-requires-2 c κs = search needs
 
+enum-told-11 : tie.Need-enum-told-11
+enum-told-11 c = search needs
+
+multiply-word-requires : tie.Need-multiply-word-requires
+multiply-word-requires c κs = search needs
+
+enum-told-12 : tie.Need-enum-told-12
+enum-told-12 c = search needs
+
+multiply-word-requires-2 : tie.Need-multiply-word-requires-2
+multiply-word-requires-2 c κs = search needs
+
 returns : tie.Need-returns
 unfolding arithmeticOf outcomeOf
 returns c = rw (c .before .before .enum-told .given .1) (c .add-word .ensures)
@@ -153,6 +165,14 @@ returns-9 c = rw (c .before .before .before .enum-told9 .given .1, ← c .before
 returns-10 : tie.Need-returns-10
 unfolding arithmeticOf outcomeOf
 returns-10 c = rw (c .before .before .before .enum-told10 .given .1, ← c .before .carry2 .ensures) (c .subtract-word2 .ensures)
+
+returns-11 : tie.Need-returns-11
+unfolding arithmeticOf outcomeOf
+returns-11 c = rw (c .before .before .enum-told11 .given .1) (c .multiply-word .ensures)
+
+returns-12 : tie.Need-returns-12
+unfolding arithmeticOf outcomeOf
+returns-12 c = rw (c .before .before .enum-told12 .given .1) (c .multiply-word2 .ensures)
 
 pub operate-spec : {M : Type 1} → statement M
 operate-spec =
@@ -195,6 +215,10 @@ operate-spec =
     enum-told-10
     carry-requires-2
     subtract-word-requires-2
+    enum-told-11
+    multiply-word-requires
+    enum-told-12
+    multiply-word-requires-2
     returns
     returns-2
     returns-3
@@ -204,4 +228,6 @@ operate-spec =
     returns-7
     returns-8
     returns-9
-    returns-10)
+    returns-10
+    returns-11
+    returns-12)

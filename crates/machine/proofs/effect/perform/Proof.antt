@@ -12,11 +12,17 @@ enum-known-i c = search needs
 put-requires : tie.Need-put-requires
 put-requires c κs = search needs
 
+going-requires : tie.Need-going-requires
+going-requires c κs = search needs
+
 enum-known-i-2 : tie.Need-enum-known-i-2
 enum-known-i-2 c = search needs
 
 operate-requires : tie.Need-operate-requires
 operate-requires c κs = search needs
+
+going-requires-2 : tie.Need-going-requires-2
+going-requires-2 c κs = search needs
 
 enum-known-i-3 : tie.Need-enum-known-i-3
 enum-known-i-3 c = search needs
@@ -42,13 +48,46 @@ enum-known-i-6 c = search needs
 shift-requires : tie.Need-shift-requires
 shift-requires c κs = search needs
 
+going-requires-3 : tie.Need-going-requires-3
+going-requires-3 c κs = search needs
+
+enum-known-i-7 : tie.Need-enum-known-i-7
+enum-known-i-7 c = search needs
+
+y-requires : tie.Need-y-requires
+y-requires c κs = search needs
+
+put-requires-2 : tie.Need-put-requires-2
+put-requires-2 c κs = search needs
+
+going-requires-4 : tie.Need-going-requires-4
+going-requires-4 c κs = search needs
+
+enum-known-i-8 : tie.Need-enum-known-i-8
+enum-known-i-8 c = search needs
+
+reg-requires : tie.Need-reg-requires
+reg-requires c κs = search needs
+
+value-requires : tie.Need-value-requires
+value-requires c κs = search needs
+
+put-y-requires : tie.Need-put-y-requires
+put-y-requires c κs = search needs
+
+going-requires-5 : tie.Need-going-requires-5
+going-requires-5 c κs = search needs
+
+going-requires-6 : tie.Need-going-requires-6
+going-requires-6 c κs = search needs
+
 returns : tie.Need-returns
 unfolding effectOf settle endingOf
-returns c = rw (c .before .before .before .i .given .1, c .put .ensures)
+returns c = rw (c .going .ensures .0, c .going .ensures .1, c .before .before .before .before .i .given .1, c .before .put .ensures)
 
 returns-2 : tie.Need-returns-2
 unfolding effectOf settle endingOf
-returns-2 c = rw (c .before .before .before .i2 .given .1, ← c .operate .ensures)
+returns-2 c = rw (c .going2 .ensures .0, c .going2 .ensures .1, c .before .before .before .before .i2 .given .1, ← c .before .operate .ensures)
 
 returns-3 : tie.Need-returns-3
 unfolding effectOf
@@ -76,11 +115,19 @@ returns-5 c = let a = c .before .before .before .before .before .before .before 
 
 returns-6 : tie.Need-returns-6
 unfolding effectOf settle endingOf
-returns-6 c = rw (c .before .before .before .i6 .given .1, c .shift .ensures)
+returns-6 c = rw (c .going3 .ensures .0, c .going3 .ensures .1, c .before .before .before .before .i6 .given .1, c .before .shift .ensures)
 
 returns-7 : tie.Need-returns-7
+unfolding effectOf settle endingOf
+returns-7 c = rw (c .going4 .ensures .0, c .going4 .ensures .1, c .before .before .before .before .before .before .i7 .given .1, c .before .put2 .ensures, c .before .before .y .ensures)
+
+returns-8 : tie.Need-returns-8
+unfolding effectOf settle endingOf
+returns-8 c = rw (c .going5 .ensures .0, c .going5 .ensures .1, c .before .before .before .before .before .before .before .before .i8 .given .1, c .before .put-y .ensures, c .before .before .value .ensures, c .before .before .before .before .reg .ensures)
+
+returns-9 : tie.Need-returns-9
 unfolding endingOf
-returns-7 c = idle _ _ _ (c .match .keys7)
+returns-9 c = rw (c .going6 .ensures .0, c .going6 .ensures .1) (idle _ _ _ (c .before .match .keys9))
 
 pub perform-spec : {M : Type 1} → statement M
 perform-spec =
@@ -88,8 +135,10 @@ perform-spec =
     (tie.spec
     enum-known-i
     put-requires
+    going-requires
     enum-known-i-2
     operate-requires
+    going-requires-2
     enum-known-i-3
     trap-requires
     enum-known-i-4
@@ -98,6 +147,17 @@ perform-spec =
     store-requires
     enum-known-i-6
     shift-requires
+    going-requires-3
+    enum-known-i-7
+    y-requires
+    put-requires-2
+    going-requires-4
+    enum-known-i-8
+    reg-requires
+    value-requires
+    put-y-requires
+    going-requires-5
+    going-requires-6
     returns
     returns-2
     returns-3
@@ -106,4 +166,6 @@ perform-spec =
     same-length-2
     returns-5
     returns-6
-    returns-7)
+    returns-7
+    returns-8
+    returns-9)
