@@ -27,7 +27,7 @@ use Rattle.words.specs.declared.Operation.the-variants.{Add, And, Or, Xor, Sub,
 use Rattle.words.specs.declared.ShiftOperation.{ShiftOperation}
 use Rattle.words.specs.declared.ShiftOperation.the-variants.{Sll, Srl, Sra}
 use Rattle.words.specs.declared.Instruction.{Instruction}
-use Rattle.words.specs.declared.Instruction.the-variants.{Illegal, Call, Sethi, Bicc, Arithmetic, Jmpl, Ticc, Load, Store, Shift, Rdy, Wry}
+use Rattle.words.specs.declared.Instruction.the-variants.{Illegal, Call, Sethi, Bicc, Arithmetic, Jmpl, Ticc, Load, Store, Shift, Rdy, Wry, Window}
 use Rattle.machine.specs.Ends.{Ending, ending, Next, go, halt, within}
 use Rattle.machine.specs.Registers.{fileSize, registerOf, putRegister, yOf, putY, valueOf, addressOf}
 use Rattle.machine.specs.Arithmetic.{top, Outcome, outcome, sumOf, differenceOf, logicOf, flipped, shiftedLeft, shiftedRight, shiftedSigned, exactProduct, productOf, shiftOf, outcomeOf, carryOf, putHigh, arithmeticOf}

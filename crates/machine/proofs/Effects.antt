@@ -13,7 +13,7 @@ use lib.ListN.{length}
 use lib.Dec.{eqb, leb}
 use native.Mathlib.Omega.{arith}
 use mathlib.Core.Bool.{Bool, false}
-use Rattle.words.specs.declared.Instruction.the-variants.{Illegal, Call, Sethi, Bicc, Arithmetic, Jmpl, Ticc, Load, Store, Shift, Rdy, Wry}
+use Rattle.words.specs.declared.Instruction.the-variants.{Illegal, Call, Sethi, Bicc, Arithmetic, Jmpl, Ticc, Load, Store, Shift, Rdy, Wry, Window}
 use Rattle.words.specs.declared.Instruction.{Instruction}
 use Rattle.machine.specs.Ends.{live, settle, ending, go, halt, endingOf, isGoing, within, left, Ending, Next, state}
 use Rattle.machine.specs.Effect.{effectOf, Machine, trapOf, withRegisters, withArea, machine}

@@ -6,7 +6,7 @@ use Rattle.numbers.specs.Choice.{pick}
 use Rattle.words.specs.Conditions.{holdsOf}
 use Rattle.words.specs.declared.Operand.{Operand}
 use Rattle.words.specs.declared.Instruction.{Instruction}
-use Rattle.words.specs.declared.Instruction.the-variants.{Illegal, Call, Sethi, Bicc, Arithmetic, Jmpl, Ticc, Load, Store, Shift, Rdy, Wry}
+use Rattle.words.specs.declared.Instruction.the-variants.{Illegal, Call, Sethi, Bicc, Arithmetic, Jmpl, Ticc, Load, Store, Shift, Rdy, Wry, Window}
 use Rattle.machine.specs.Ends.{ending, Next, go, halt, within}
 use Rattle.machine.specs.Registers.{registerOf, putRegister, yOf, putY, valueOf, addressOf}
 use Rattle.machine.specs.Arithmetic.{After, shiftOf, arithmeticOf}

@@ -17,7 +17,7 @@ use Rattle.words.proofs.Conditions.{conditions-all}
 use Rattle.words.specs.Reader.{bits, format0Of, format2Of, format3Of, byFormat, instructionOf, rows0, rows2, none2, rows3, none3, operandOf}
 use Rattle.words.specs.declared.Operand.{Operand}
 use Rattle.words.specs.declared.Instruction.{Instruction}
-use Rattle.words.specs.declared.Instruction.the-variants.{Illegal, Call, Sethi, Bicc, Arithmetic, Jmpl, Ticc, Load, Store, Shift, Rdy, Wry}
+use Rattle.words.specs.declared.Instruction.the-variants.{Illegal, Call, Sethi, Bicc, Arithmetic, Jmpl, Ticc, Load, Store, Shift, Rdy, Wry, Window}
 use Rattle.machine.specs.Ends.{Ending, ending, go, halt, within}
 use Rattle.machine.specs.Registers.{addressOf}
 use Rattle.machine.specs.Effect.{Machine, effectOf, trapOf}

@@ -11,7 +11,7 @@ use Rattle.words.specs.Reader.{instructionOf}
 use Rattle.words.specs.Conditions.{holdsOf}
 use Rattle.words.specs.declared.Operand.{Operand}
 use Rattle.words.specs.declared.Instruction.{Instruction}
-use Rattle.words.specs.declared.Instruction.the-variants.{Illegal, Call, Sethi, Bicc, Arithmetic, Jmpl, Ticc, Load, Store, Shift, Rdy, Wry}
+use Rattle.words.specs.declared.Instruction.the-variants.{Illegal, Call, Sethi, Bicc, Arithmetic, Jmpl, Ticc, Load, Store, Shift, Rdy, Wry, Window}
 use Rattle.machine.specs.Ends.{ending, Next, go, halt, within, State, live}
 use Rattle.machine.specs.Registers.{putRegister, addressOf}
 use Rattle.machine.specs.Effect.{Machine, withRegisters, effectOf}

@@ -2,7 +2,7 @@
 use Rattle.numbers.proofs.Choice.{either, Misses, find-none}
 use Rattle.numbers.proofs.Lists.{at-up, past-up, drop-up, drop-all-up}
 use Rattle.numbers.specs.Number.{numberAt}
-use Rattle.words.specs.declared.Instruction.the-variants.{Illegal, Call, Sethi, Bicc, Arithmetic, Jmpl, Ticc, Load, Store, Shift, Rdy, Wry}
+use Rattle.words.specs.declared.Instruction.the-variants.{Illegal, Call, Sethi, Bicc, Arithmetic, Jmpl, Ticc, Load, Store, Shift, Rdy, Wry, Window}
 use Rattle.words.specs.declared.Instruction.{Instruction}
 use Rattle.words.specs.Reader.{instructionOf, asJmpl}
 use Rattle.machine.specs.Ends.{ending, halt}
