@@ -8,8 +8,8 @@ use mathlib.Core.List.{List, [], _∷_}
 use mathlib.Core.Logic.{_⊎_, inl, inr}
 use lib.Dec.{eqb, ltb}
 use lib.ListN.{length, getD, set, length-set}
-use lib.Seq.{getD-set-same, getD-set-other, set-comm}
-use borrow.Author.Tests.{eqb-true, eqb-false, le-ltb}
+use lib.Seq.{getD-set-same, getD-set-other, set-comm, ext-getD}
+use borrow.Author.Tests.{eqb-true, eqb-false, ltb-true, ltb-false, le-ltb}
 use Rattle.numbers.specs.Choice.{pick}
 use Rattle.numbers.specs.Number.{Below}
 use Rattle.numbers.proofs.Bounds.{below-get, below-set}
@@ -96,6 +96,13 @@ module _ (at v : ℕ → ℕ) where
       go false q r =
           let n : j ≡ k → ⊥ = eqb-false j k q in
           getD-set-other (putEach at v k rs) (at k) (at j) (v k) 0 (λ z. n (a j k h (omega arith) z)) ∙ r (omega (arith, n))
+
+  -- another number may be written before or after
+  pub each-set : (n : ℕ) (rs : List ℕ) (i x : ℕ) → ((k : ℕ) → k < n → i ≡ at k → ⊥) → set (putEach at v n rs) i x ≡ putEach at v n (set rs i x)
+  unfolding putEach
+  each-set zero rs i x f = refl
+  each-set (suc k) rs i x f =
+      set-comm (putEach at v k rs) (at k) i (v k) x (λ e. f k (omega arith) (sym e)) ∙ ap (λ (r : List ℕ). set r (at k) (v k)) (each-set k rs i x (λ j h. f j (omega arith)))
 
 -- equal positions and numbers
 pub each-same : (at at′ v v′ : ℕ → ℕ) (n : ℕ) (rs : List ℕ) → ((k : ℕ) → k < n → at k ≡ at′ k) → ((k : ℕ) → k < n → v k ≡ v′ k)
@@ -290,3 +297,138 @@ module _ (v : ℕ) (rs : List ℕ) where
   turned-low i (inr h) =
       getD-set-other (cleared v up) 33 i v 0 (λ e. omega arith) ∙ cleared-low v up i (omega arith) ∙ taken-other v (laid rs) i (inr (omega arith))
       ∙ laid-low rs i (omega arith)
+
+-- ---------------------------------------------------------------- what comes in and what is shown
+-- the register at a position, if there is one among the first n of a window
+data Among (w n i : ℕ) : Type 0 where
+  covered : (k : ℕ) → k < n → i ≡ ringPlace w k → Among w n i
+  free : ((k : ℕ) → k < n → i ≡ ringPlace w k → ⊥) → Among w n i
+
+among : (w n i : ℕ) → Among w n i
+among w zero i = free (λ k h e. omega arith)
+among w (suc n) i = go (eqb i (ringPlace w n)) refl (among w n i)
+  where
+    go : (b : Bool) → eqb i (ringPlace w n) ≡ b → Among w n i → Among w (suc n) i
+    go true q c = covered n (omega arith) (eqb-true i (ringPlace w n) q)
+    go false q (covered k h e) = covered k (omega arith) e
+    go false q (free f) = free (λ k h e. past k h e (eqb k n) refl)
+      where
+        past : (k : ℕ) → k < suc n → i ≡ ringPlace w k → (t : Bool) → eqb k n ≡ t → ⊥
+        past k h e true p = eqb-false i (ringPlace w n) q (rw (← eqb-true k n p) e)
+        past k h e false p = let d : k ≡ n → ⊥ = eqb-false k n p in f k (omega (arith, d)) e
+
+abbrev Covered : ℕ → ℕ → Type 0
+Covered w i = Among w 24 i
+
+covers : (w i : ℕ) → Covered w i
+covers w i = among w 24 i
+
+-- a file as a run has it
+pub record Held (rs : List ℕ) : Type 0 where
+  pub whole : length rs ≡ fileSize
+  pub zero : getD rs 0 0 ≡ 0
+  pub clear : Clear rs
+  pub nesting : nestingOf rs ≤ 6
+
+-- what is shown, with its window's places cleared, is the file again
+cleared-laid : (rs : List ℕ) → length rs ≡ fileSize → Clear rs → cleared (nestingOf rs) (laid rs) ≡ rs
+cleared-laid rs l c =
+    ext-getD 0 (cleared (nestingOf rs) (laid rs)) rs (cleared-length (nestingOf rs) (laid rs) ∙ laid-length rs) (λ i h. same i (covers (nestingOf rs) i))
+  where
+    same : (i : ℕ) → Covered (nestingOf rs) i → getD (cleared (nestingOf rs) (laid rs)) i 0 ≡ getD rs i 0
+    same i (covered k h e) = rw e (cleared-own (nestingOf rs) (laid rs) (laid-length rs ∙ l) k h ∙ sym (c k h))
+    same i (free f) = cleared-free (nestingOf rs) (laid rs) i f ∙ laid-free rs i f
+
+set-own : (l : List ℕ) (i : ℕ) → set l i (getD l i 0) ≡ l
+set-own [] i = refl
+set-own (x ∷ l) zero = refl
+set-own (x ∷ l) (suc i) = ap {B = List ℕ} (λ r. x ∷ r) (set-own l i)
+
+own-nesting : (l : List ℕ) → set l 33 (nestingOf l) ≡ l
+unfolding nestingOf
+own-nesting l = set-own l 33
+
+-- states come back from their bytes, and equal entries are equal states
+pub shown-in : (rs : List ℕ) → Held rs → comeIn (laid rs) ≡ rs
+unfolding comeIn nested
+shown-in rs h =
+    let m : min (nestingOf rs) 6 ≡ nestingOf rs = omega (arith, h .nesting) in
+    let n : set (laid rs) 33 (nestingOf rs) ≡ laid rs = rw (laid-nesting rs) at (own-nesting (laid rs)) in
+    rw (laid-nesting rs, m, n) (cleared-laid rs (h .whole) (h .clear))
+
+-- the nesting as it counts
+abbrev counts : List ℕ → ℕ
+counts rs = min (nestingOf rs) 6
+
+module _ (rs : List ℕ) where
+  nested-other : (i : ℕ) → (i ≡ 33 → ⊥) → getD (nested rs) i 0 ≡ getD rs i 0
+  unfolding nested
+  nested-other i n = getD-set-other rs 33 i (counts rs) 0 n
+
+  nested-length : length (nested rs) ≡ length rs
+  unfolding nested
+  nested-length = length-set rs 33 (counts rs)
+
+  pub in-low : (i : ℕ) → i < 33 → getD (comeIn rs) i 0 ≡ getD rs i 0
+  unfolding comeIn
+  in-low i h = cleared-low (counts rs) (nested rs) i (omega arith) ∙ nested-other i (λ e. omega arith)
+
+  pub in-nesting : length rs ≡ fileSize → nestingOf (comeIn rs) ≡ counts rs
+  unfolding comeIn nested nestingOf
+  in-nesting l = cleared-low (min (getD rs 33 0) 6) (set rs 33 (min (getD rs 33 0) 6)) 33 (omega arith) ∙ getD-set-same rs 33 (min (getD rs 33 0) 6) 0 (omega (arith, l))
+
+  pub in-free : (i : ℕ) → 34 ≤ i → ((k : ℕ) → k < 24 → i ≡ ringPlace (counts rs) k → ⊥) → getD (comeIn rs) i 0 ≡ getD rs i 0
+  unfolding comeIn
+  in-free i h f = cleared-free (counts rs) (nested rs) i f ∙ nested-other i (λ e. omega arith)
+
+  pub in-length : length (comeIn rs) ≡ length rs
+  unfolding comeIn
+  in-length = cleared-length (counts rs) (nested rs) ∙ nested-length
+
+  pub in-below : Below (2 ^ 32) rs → Below (2 ^ 32) (comeIn rs)
+  unfolding comeIn nested
+  in-below b = cleared-below (counts rs) (set rs 33 (counts rs)) (below-set (2 ^ 32) rs 33 (counts rs) (omega arith) b)
+
+  in-own : length rs ≡ fileSize → (k : ℕ) → k < 24 → getD (comeIn rs) (ringPlace (counts rs) k) 0 ≡ 0
+  unfolding comeIn
+  in-own l k h = cleared-own (counts rs) (nested rs) (nested-length ∙ l) k h
+
+  pub held-in : length rs ≡ fileSize → getD rs 0 0 ≡ 0 → Held (comeIn rs)
+  held-in l z =
+      record {
+        whole = in-length ∙ l;
+        zero = in-low 0 (omega arith) ∙ z;
+        clear = λ k h. rw (in-nesting l) (in-own l k h);
+        nesting = rw (in-nesting l) (omega arith);
+      }
+
+-- register 0 may be zeroed before or after
+pub in-zeroed : (rs : List ℕ) → set (comeIn rs) 0 0 ≡ comeIn (set rs 0 0)
+unfolding comeIn nested cleared
+in-zeroed rs =
+    let n = min (nestingOf rs) 6 in
+    rw (set-nesting rs 0 0 (omega arith), ← set-comm rs 33 0 n 0 (λ e. omega arith))
+    (each-set (ringPlace n) (λ k. 0) 24 (set rs 33 n) 0 0 (λ k h e. omega (arith, ring-past n k)))
+
+-- what stands at the places of the window that counts makes no difference
+pub in-alike : (rs ss : List ℕ) → length rs ≡ fileSize → length ss ≡ fileSize
+    → ((i : ℕ) → ((k : ℕ) → k < 24 → i ≡ ringPlace (min (nestingOf rs) 6) k → ⊥) → getD rs i 0 ≡ getD ss i 0) → comeIn rs ≡ comeIn ss
+unfolding nestingOf
+in-alike rs ss l m same = ext-getD 0 (comeIn rs) (comeIn ss) (in-length rs ∙ l ∙ sym (in-length ss ∙ m)) (λ i h. each i (covers (counts rs) i))
+  where
+    nesting-same : nestingOf rs ≡ nestingOf ss
+    nesting-same = same 33 (λ k h g. omega (arith, ring-past (counts rs) k))
+
+    at-33 : getD (comeIn rs) 33 0 ≡ getD (comeIn ss) 33 0
+    at-33 = in-nesting rs l ∙ rw nesting-same (sym (in-nesting ss m))
+
+    each : (i : ℕ) → Covered (counts rs) i → getD (comeIn rs) i 0 ≡ getD (comeIn ss) i 0
+    each i (covered k h g) = rw g (in-own rs l k h ∙ sym (rw (← nesting-same) at (in-own ss m k h)))
+    each i (free f) = go (ltb i 33) (eqb i 33) refl refl
+      where
+        go : (a b : Bool) → ltb i 33 ≡ a → eqb i 33 ≡ b → getD (comeIn rs) i 0 ≡ getD (comeIn ss) i 0
+        go true b p q = let h : i < 33 = ltb-true i 33 p in in-low rs i h ∙ same i f ∙ sym (in-low ss i h)
+        go false true p q = rw (eqb-true i 33 q) at-33
+        go false false p q =
+            let h : 34 ≤ i = omega (arith, ltb-false i 33 p, eqb-false i 33 q) in
+            in-free rs i h f ∙ same i f ∙ sym (in-free ss i h (rw nesting-same at f))
