@@ -39,7 +39,7 @@ use Rattle.machine.specs.DataArea.{widthOf, signOf, sizeOf, valueAt, put
 use Rattle.machine.specs.Effect.{Machine, trapOf, withRegisters, withArea, effectOf}
 use Rattle.machine.specs.Windows.{nestingOf, Clear, turned, windowOf}
 use Rattle.machine.proofs.Zero.{Zero, put-zero, y-zero}
-use Rattle.machine.proofs.Ring.{put-nesting, put-clear, y-nesting, y-clear, turned-length, turned-below, turned-nesting, turned-clear, turned-low}
+use Rattle.machine.proofs.Ring.{Held, put-nesting, put-clear, y-nesting, y-clear, turned-length, turned-below, turned-nesting, turned-clear, turned-low}
 use Rattle.machine.proofs.Products.{modulo-lt}
 
 pub record Sound (n : ℕ) (m : Machine) : Type 0 where
@@ -51,6 +51,9 @@ pub record Sound (n : ℕ) (m : Machine) : Type 0 where
   pub flags : m .flags < 16
   pub area : Below 256 (m .area)
   pub sized : length (m .area) ≡ n
+
+pub held : (n : ℕ) (m : Machine) → Sound n m → Held (m .registers)
+held n m s = record { whole = s .whole; zero = s .zero; clear = s .clear; nesting = s .nesting }
 
 -- what a word or a step leaves: a sound state, or an end of 1 to 9 with a number of 32 bits beside it
 abbrev pub SoundEnd : Ending → Type 0

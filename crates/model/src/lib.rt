@@ -41,7 +41,7 @@ pub struct OldCore {
 }
 
 impl OldCore {
-    // The start values: all registers and Y 0, all flags clear.
+    // The start values: all registers, Y, nesting and windows 0, all flags clear.
     pub fn new() -> Self
         ensures { λ r. ⌜ r ≡ startValues ⌝ }
     {
@@ -75,7 +75,7 @@ pub struct NewCore {
 }
 
 impl NewCore {
-    // The start values: all registers and Y 0, all flags clear.
+    // The start values: all registers, Y, nesting and windows 0, all flags clear.
     pub fn new() -> Self
         ensures { λ r. ⌜ r ≡ newStartValues ⌝ }
     {
@@ -117,11 +117,11 @@ pub enum Answer {
 // The byte of each core's state from which on stands what the file has behind the registers, and how many bytes a state has.
 pub const OLD_BEHIND: usize = 152;
 
-pub const OLD_STATE: usize = 156;
+pub const OLD_STATE: usize = 672;
 
 pub const NEW_BEHIND: usize = 148;
 
-pub const NEW_STATE: usize = 152;
+pub const NEW_STATE: usize = 668;
 
 // The register file in a state's bytes: numbers 0 to 31, and behind them those from a position.
 pub fn file_in(bytes: &[u8], behind: usize) -> File
