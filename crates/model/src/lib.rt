@@ -135,9 +135,9 @@ pub fn file_in(bytes: &[u8], behind: usize) -> File
 }
 
 // Fills a state's bytes: the registers, the flags and a core's own numbers, and what the file has behind the registers.
-pub fn put_state(bytes: &mut [u8], regs: File, rest: &[u32])
-    requires { ⌜ length (now bytes) ≡ 128 + 4 * length (now rest) + 4 * (fileSize - 32) ⌝ }
-    ensures { λ _. ⌜ now (bytes .exit) ≡ bytesOf (take 32 regs ++ (now (rest .entry) ++ drop 32 regs)) ⌝ }
+pub fn put_state(bytes: &mut [u8], regs: &[u32], rest: &[u32])
+    requires { ⌜ (length (now regs) ≡ fileSize) × (length (now bytes) ≡ 128 + 4 * length (now rest) + 4 * (fileSize - 32)) ⌝ }
+    ensures { λ _. ⌜ now (bytes .exit) ≡ bytesOf (take 32 (now (regs .entry)) ++ (now (rest .entry) ++ drop 32 (now (regs .entry)))) ⌝ }
 {
     numbers::write_numbers(bytes, 0, &regs[..32]);
     numbers::write_numbers(bytes, 128, rest);

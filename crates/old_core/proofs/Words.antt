@@ -20,7 +20,7 @@ use Rattle.words.proofs.Instruction.{the-type as instruction}
 
 -- the numbers are those of the variants, in the order of the enum
 abbrev others : List ℕ
-others = 2 ∷ 4 ∷ 6 ∷ 7 ∷ 8 ∷ 9 ∷ 10 ∷ 11 ∷ []
+others = 2 ∷ 4 ∷ 6 ∷ 7 ∷ 8 ∷ 9 ∷ 10 ∷ 11 ∷ 12 ∷ []
 
 pub no-transfer : (db : ℕ) (i : Instruction) (m : Machine) (pc npc : ℕ) → OneOf others (tagOf instruction i)
     → executes db (transferOf i) i m pc npc ≡ within (follows npc) (effectOf db i m)
@@ -41,6 +41,7 @@ no-transfer db (Store w rd rs1 x) m pc npc k = refl
 no-transfer db (Shift o rd rs1 x) m pc npc k = refl
 no-transfer db (Rdy rd) m pc npc k = refl
 no-transfer db (Wry s) m pc npc k = refl
+no-transfer db (Window o rd rs1 x) m pc npc k = refl
 
 -- annul, as a number and as a test
 pub set-bit : (b : Bool) → isSet (bitOf b) ≡ b

@@ -3,6 +3,7 @@ ghost use mathlib.Core.Path.{_≡_};
 ghost use mathlib.Core.List.{List, []};
 ghost use Prim.Native.Nat.{ℕ};
 ghost use Rattle.machine.specs.Ends.{ending, endingOf};
+ghost use Rattle.machine.specs.Windows.{laid};
 ghost use Rattle.model.specs.Run.{zeroed};
 ghost use Rattle.model.specs.NewState.{newState};
 ghost use Rattle.model.specs.StateBytes.{newIn, newBytes, after, newBegins, newRuns};
@@ -10,6 +11,7 @@ use machine::Ended;
 use machine::Flags;
 use machine::SourcePc;
 use machine::TargetPc;
+use machine::registers::File;
 use model::NEW_BEHIND;
 use model::NEW_STATE;
 use model::NewControl;
@@ -19,7 +21,8 @@ use model::NewCore;
 fn decode(state: &[u8; NEW_STATE]) -> NewCore
     ensures { λ r. ⌜ ((a : List ℕ) → newState (zeroed (r .registers)) (r .control) a ≡ newIn (now (state .entry)) a) ⌝ }
 {
-    let regs = model::file_in(state, NEW_BEHIND);
+    let mut regs = model::file_in(state, NEW_BEHIND);
+    machine::windows::come_in(&mut regs);
     let nzvc = numbers::read_number(state, 128) % 16;
     let k = TargetPc(numbers::read_number(state, 132));
     let h = SourcePc(numbers::read_number(state, 136));
@@ -40,23 +43,22 @@ fn decode(state: &[u8; NEW_STATE]) -> NewCore
     }
 }
 
-// The bytes of a state, and how it ended.
-fn encode(core: NewCore, state: &mut [u8; NEW_STATE]) -> Ended
-    ensures { λ r. ⌜ (ending (r .end) (r .number) ≡ endingOf (core .control .end)) × ((a : List ℕ) → now (state .exit) ≡ newBytes (newState (core .registers) (core .control) a)) ⌝ }
+// The bytes of a state, the current window among the others, and how it ended.
+fn encode(regs: &mut File, c: NewControl, state: &mut [u8; NEW_STATE]) -> Ended
+    ensures { λ r. ⌜ (ending (r .end) (r .number) ≡ endingOf (c .end)) × (now (regs .exit) ≡ laid (now (regs .entry))) × ((a : List ℕ) → now (state .exit) ≡ newBytes (newState (now (regs .entry)) c a)) ⌝ }
 {
-    let regs = core.registers;
-    let c = core.control;
     let f = c.flags;
     let k = c.at;
     let h = c.held;
     let e = c.end;
     let r = machine::numbers_of(e);
     let rest = [f.nzvc, k.0, h.0, r.end, r.number];
+    machine::windows::lay_down(regs);
     model::put_state(state, regs, &rest);
     r
 }
 
-// Begins at an address: registers, Y and flags stay.
+// Begins at an address: registers, flags, Y, nesting and windows stay.
 #[no_mangle]
 pub extern "C" fn pijorrel_new_begin(
     places: &[u8],
@@ -67,8 +69,10 @@ pub extern "C" fn pijorrel_new_begin(
 ) -> Ended
     ensures { λ r. ⌜ after (r .end) (r .number) (now (state .exit)) [] ≡ newBegins (now (places .entry)) base size a (now (state .entry)) ⌝ }
 {
-    let core = new_core::begin(places, base, size, decode(state), SourcePc(a));
-    encode(core, state)
+    let mut core = decode(state);
+    let c = core.control;
+    let k = new_core::begin(places, base, size, &mut core.registers, c, SourcePc(a));
+    encode(&mut core.registers, k, state)
 }
 
 // Does count records, or fewer where the run ends.
@@ -98,6 +102,5 @@ pub extern "C" fn pijorrel_new_run(
         area,
         count,
     );
-    core.control = k;
-    encode(core, state)
+    encode(&mut core.registers, k, state)
 }

@@ -3,12 +3,14 @@ ghost use mathlib.Core.Path.{_≡_};
 ghost use mathlib.Core.List.{List};
 ghost use Prim.Native.Nat.{ℕ};
 ghost use Rattle.machine.specs.Ends.{ending, endingOf};
+ghost use Rattle.machine.specs.Windows.{laid};
 ghost use Rattle.model.specs.Run.{zeroed};
 ghost use Rattle.model.specs.OldState.{oldState};
 ghost use Rattle.model.specs.StateBytes.{oldIn, oldBytes, after, oldBegins, oldRuns};
 use machine::Ended;
 use machine::Flags;
 use machine::SourcePc;
+use machine::registers::File;
 use model::OLD_BEHIND;
 use model::OLD_STATE;
 use model::OldControl;
@@ -18,7 +20,8 @@ use model::OldCore;
 fn decode(state: &[u8; OLD_STATE]) -> OldCore
     ensures { λ r. ⌜ ((a : List ℕ) → oldState (zeroed (r .registers)) (r .control) a ≡ oldIn (now (state .entry)) a) ⌝ }
 {
-    let regs = model::file_in(state, OLD_BEHIND);
+    let mut regs = model::file_in(state, OLD_BEHIND);
+    machine::windows::come_in(&mut regs);
     let nzvc = numbers::read_number(state, 128) % 16;
     let p = SourcePc(numbers::read_number(state, 132));
     let n = SourcePc(numbers::read_number(state, 136));
@@ -41,12 +44,10 @@ fn decode(state: &[u8; OLD_STATE]) -> OldCore
     }
 }
 
-// The bytes of a state, and how it ended.
-fn encode(core: OldCore, state: &mut [u8; OLD_STATE]) -> Ended
-    ensures { λ r. ⌜ (ending (r .end) (r .number) ≡ endingOf (core .control .end)) × ((a : List ℕ) → now (state .exit) ≡ oldBytes (oldState (core .registers) (core .control) a)) ⌝ }
+// The bytes of a state, the current window among the others, and how it ended.
+fn encode(regs: &mut File, c: OldControl, state: &mut [u8; OLD_STATE]) -> Ended
+    ensures { λ r. ⌜ (ending (r .end) (r .number) ≡ endingOf (c .end)) × (now (regs .exit) ≡ laid (now (regs .entry))) × ((a : List ℕ) → now (state .exit) ≡ oldBytes (oldState (now (regs .entry)) c a)) ⌝ }
 {
-    let regs = core.registers;
-    let c = core.control;
     let f = c.flags;
     let p = c.pc;
     let n = c.npc;
@@ -54,17 +55,20 @@ fn encode(core: OldCore, state: &mut [u8; OLD_STATE]) -> Ended
     let r = machine::numbers_of(e);
     let annul = machine::bit(c.annul != 0);
     let rest = [f.nzvc, p.0, n.0, annul, r.end, r.number];
+    machine::windows::lay_down(regs);
     model::put_state(state, regs, &rest);
     r
 }
 
-// Begins at an address: registers, Y and flags stay.
+// Begins at an address: registers, flags, Y, nesting and windows stay.
 #[no_mangle]
 pub extern "C" fn pijorrel_old_begin(pc: u32, state: &mut [u8; OLD_STATE])
     ensures { λ _. ⌜ now (state .exit) ≡ oldBegins pc (now (state .entry)) ⌝ }
 {
-    let core = old_core::begin(decode(state), SourcePc(pc));
-    let _r = encode(core, state);
+    let mut core = decode(state);
+    let c = core.control;
+    let k = old_core::begin(&mut core.registers, c, SourcePc(pc));
+    let _r = encode(&mut core.registers, k, state);
 }
 
 // Passes count words, or fewer where the run ends.
@@ -82,6 +86,5 @@ pub extern "C" fn pijorrel_old_run(
     let mut core = decode(state);
     let c = core.control;
     let k = old_core::run(image, base, db, &mut core.registers, c, area, count);
-    core.control = k;
-    encode(core, state)
+    encode(&mut core.registers, k, state)
 }

@@ -39,6 +39,7 @@ by-flow f h (Store w rd rs1 x) = refl
 by-flow f h (Shift o rd rs1 x) = refl
 by-flow f h (Rdy rd) = refl
 by-flow f h (Wry s) = refl
+by-flow f h (Window o rd rs1 x) = refl
 
 -- a branch that may be held: condition 0, no annul
 each : (w : Which) → idleBicc w true ≡ false

@@ -1,7 +1,7 @@
 use Prim.Native.Nat.{_-_}
 use native.Mathlib.Omega.{arith}
 use mathlib.Core.Path.{_≡_, refl, sym}
-use lib.ListN.{take, drop, length-drop}
+use lib.ListN.{length, take, drop, length-drop}
 use lib.Seq.{length-take-le, take-all}
 use Rattle.machine.specs.Registers.{fileSize}
 use Rattle.model.proofs.Filled.{fill-state}
@@ -9,11 +9,10 @@ use borrow.Author.Needs.{needs}
 use Rattle.model.proofs.put_state.Statement.{statement}
 use Rattle.model.proofs.put_state.Tie as tie
 
-array-share-prefix-regs : tie.Need-array-share-prefix-regs
-array-share-prefix-regs c = search needs
-
 slice-aggregate-write-numbers : tie.Need-slice-aggregate-write-numbers
-slice-aggregate-write-numbers c = sym (length-take-le 32 (c .before .before .before .before .args .t2) (array-share-prefix-regs (c .before)))
+slice-aggregate-write-numbers c =
+    let k = c .before .before .before .before .before in
+    sym (length-take-le 32 (k .args .regs .now) (omega (arith, k .pre .0)))
 
 write-numbers-requires : tie.Need-write-numbers-requires
 write-numbers-requires c κs = let e = slice-aggregate-write-numbers c in omega (arith, e)
@@ -43,21 +42,22 @@ same-length : tie.Need-same-length
 same-length c = search needs
 
 returns : tie.Need-returns
-returns c = let w = c .before .before .before .before .before .before .before .before .before .before .before .before in
-    let k = w .before .before .before .before .before .args in
+returns c =
+    let w = c .before .before .before .before .before .before .before .before .before .before .before in
+    let k = w .before .before .before .before .before .before .args in
     let n = part-write-numbers-end (c .before .before .before .before) in
-    let d = length-drop 32 (k .t2) in
-    let all : take (fileSize - 32) (drop 32 (k .t2)) ≡ drop 32 (k .t2) = take-all (fileSize - 32) (drop 32 (k .t2)) (omega (arith, n, d)) in
-    fill-state (k .bytes .now) (w .write-numbers .last .0) _ _ (take 32 (k .t2)) (k .rest .now) (drop 32 (k .t2)) _
-    (sym (slice-aggregate-write-numbers (w .before))) refl (omega (arith, n, d)) (w .write-numbers .ensures)
-    (c .before .before .before .before .before .before .before .before .write-numbers2 .ensures)
+    let d = length-drop 32 (k .regs .now) in
+    let r = k .regs .now in
+    let all : take (length r - 32) (drop 32 r) ≡ drop 32 r = take-all (length r - 32) (drop 32 r) (omega (arith, d)) in
+    fill-state (k .bytes .now) (w .write-numbers .last .0) _ _ (take 32 (k .regs .now)) (k .rest .now) (drop 32 (k .regs .now)) _
+    (sym (slice-aggregate-write-numbers (w .before))) refl (omega (arith, n, d, w .before .before .before .before .before .before .pre)) (w .write-numbers .ensures)
+    (c .before .before .before .before .before .before .before .write-numbers2 .ensures)
     (rw all at (c .before .before .write-numbers3 .ensures))
 
 pub put-state-spec : {M : Type 1} → statement M
 put-state-spec =
     tie.close
     (tie.spec
-    array-share-prefix-regs
     slice-aggregate-write-numbers
     write-numbers-requires
     write-numbers-requires-2
