@@ -68,17 +68,17 @@ static size_t stack_of(void *(*work)(void *), void *argument)
     return sizeof stack - left;
 }
 
-/* Conditional branches throughout, so that the walk has thousands of places to find; in every eighth word a product,
- * umulcc %g1, %g1, %g2. */
+/* Conditional branches throughout, so that the walk has thousands of places to find; every eighth word is in turn a
+ * product, umulcc %g1, %g1, %g2, a save %o6, -96, %o6 and a restore. */
 static void make_image(void)
 {
-    static const uint8_t product[4] = { 0x84, 0xD0, 0x40, 0x01 };
+    static const uint8_t others[3][4] = { { 0x84, 0xD0, 0x40, 0x01 }, { 0x9D, 0xE3, 0xBF, 0xA0 }, { 0x81, 0xE8 } };
     for (size_t i = 0; i < sizeof image; i += 4) {
         image[i] = 0x12;
         image[i + 1] = 0x80;
         image[i + 3] = 2;
         if (i % 32 == 28)
-            memcpy(image + i, product, sizeof product);
+            memcpy(image + i, others[i / 32 % 3], sizeof *others);
     }
 }
 
