@@ -29,7 +29,7 @@ TRAP_TAKEN = 1
 BRANCHES = [kind for kind in CONTROL if kind not in ("call", "jmpl")]
 OPERATIONS = [*programs.ARITHMETIC, *programs.PRODUCTS, *programs.SHIFTS, *programs.MEMORY, "wry", "jmpl"]
 
-Entry = namedtuple("Entry", "address registers flags y")
+Entry = namedtuple("Entry", "address registers flags y nesting")
 Run = namedtuple("Run", "end number steps entries data")
 
 
@@ -67,7 +67,7 @@ class Qemu:
     """Runs a program in QEMU, a word at a time, and reads its log."""
 
     BLOCK = re.compile(r"pc: (\w+) +npc: \w+\n%g0-7: (.+)\n%o0-7: (.+)\n%l0-7: (.+)\n%i0-7: (.+)\n"
-                       r"psr: \w+ \(icc: ([N-])([Z-])([V-])([C-]).*\nfsr: \w+ y: (\w+)")
+                       r"psr: (\w+) \(icc: ([N-])([Z-])([V-])([C-]).*\nfsr: \w+ y: (\w+)")
 
     def __init__(self, folder):
         help_text = subprocess.run(["qemu-sparc", "-h"], capture_output=True, text=True).stdout
@@ -78,7 +78,7 @@ class Qemu:
     def run(self, program):
         """The trail in its log, and how the process ended: 0 for the exit trap."""
         entries, status, _ = self.run_file(elf_file(program))
-        return entries, status
+        return without_repeats(entries, program.word_at), status
 
     def run_file(self, executable):
         """The same of an executable's bytes, and what the process wrote."""
@@ -93,13 +93,32 @@ class Qemu:
         except subprocess.TimeoutExpired:
             status = "no end in time"
         log = self.log.read_text() if self.log.exists() else ""
-        return [self.entry(block) for block in self.BLOCK.findall(log)], status, output
+        blocks = self.BLOCK.findall(log)
+        return [self.entry(block, window_in(blocks[0])) for block in blocks], status, output
 
     @staticmethod
-    def entry(block):
+    def entry(block, first_window):
+        """The windows are counted down by a save: the nesting is how far, as long as that is less than eight."""
         registers = tuple(int(number, 16) for number in " ".join(block[1:5]).split())
-        flags = int("".join("0" if flag == "-" else "1" for flag in block[5:9]), 2)
-        return Entry(int(block[0], 16), registers, flags, int(block[9], 16))
+        flags = int("".join("0" if flag == "-" else "1" for flag in block[6:10]), 2)
+        return Entry(int(block[0], 16), registers, flags, int(block[10], 16), (first_window - window_in(block)) % 8)
+
+
+def window_in(block):
+    """PSR's last five bits."""
+    return int(block[5], 16) & 31
+
+
+def repeats(entries, word_at):
+    """The positions of entries that are none. QEMU logs a save or restore twice where it spills or fills a window first;
+    one that is done changes the nesting, so that of two in a row that do not differ the second is the first again."""
+    return [at for at in range(1, len(entries))
+            if entries[at] == entries[at - 1] and programs.kind_of(word_at(entries[at].address)) in programs.WINDOWS]
+
+
+def without_repeats(entries, word_at):
+    passed_over = set(repeats(entries, word_at))
+    return [entry for at, entry in enumerate(entries) if at not in passed_over]
 
 
 def limit_files():

@@ -5,6 +5,7 @@ closing that loads each word of the data into a register and leaves by the exit 
 the body, each access fits and each target lies in the body, so that it loops, takes a trap or reaches the exit.
 """
 from dataclasses import dataclass
+from functools import cache
 
 ARITHMETIC = {"add": 0x00, "and": 0x01, "or": 0x02, "xor": 0x03, "sub": 0x04, "andn": 0x05, "orn": 0x06,
               "xnor": 0x07, "addx": 0x08, "subx": 0x0C}
@@ -12,7 +13,8 @@ ARITHMETIC.update({name + "cc": op3 + 0x10 for name, op3 in ARITHMETIC.items()})
 PRODUCTS = {"umul": 0x0A, "smul": 0x0B, "umulcc": 0x1A, "smulcc": 0x1B}
 SHIFTS = {"sll": 0x25, "srl": 0x26, "sra": 0x27}
 RDY, WRY, JMPL, TICC = 0x28, 0x30, 0x38, 0x3A
-OTHERS = {"rdy": RDY, "wry": WRY, "jmpl": JMPL, "ticc": TICC}
+WINDOWS = {"save": 0x3C, "restore": 0x3D}
+OTHERS = {"rdy": RDY, "wry": WRY, "jmpl": JMPL, "ticc": TICC, **WINDOWS}
 MEMORY = {"ld": 0x00, "ldub": 0x01, "lduh": 0x02, "ldsb": 0x09, "ldsh": 0x0A, "st": 0x04, "stb": 0x05, "sth": 0x06}
 STORES = ("st", "stb", "sth")
 WIDTH = {"ld": 4, "ldub": 1, "lduh": 2, "ldsb": 1, "ldsh": 2, "st": 4, "stb": 1, "sth": 2}
@@ -69,6 +71,7 @@ def condition_of(word):
     return word >> 25 & 15
 
 
+@cache
 def kind_of(word):
     """The word's name, branches by condition and annul bit as in CONTROL, traps as "ticc"."""
     op, op3 = word >> 30, word >> 19 & 0x3F
