@@ -12,7 +12,7 @@
 #include "runs.h"
 #include "stored.h"
 
-enum { LEAST_PROGRAMS = 6, LEAST_WITH_UNIMPS = 3, LEAST_WITH_PRODUCTS = 3, LEAST_WITH_SAVES = 6 };
+enum { LEAST_PROGRAMS = 6, LEAST_WITH_UNIMPS = 3, LEAST_WITH_PRODUCTS = 3, LEAST_WITH_SAVES = 10 };
 enum { TRAP_TAKEN = 1, TOO_MANY_SAVES = 8 };
 
 /* What --spoil changes: a record that the run comes to, or one of QEMU's numbers. The last is no spoiling: every unimp

@@ -205,10 +205,10 @@ class Maker:
         return words
 
     def first_value(self, nesting, register):
-        """Registers that hold an address are alike in all windows, and globals are."""
-        if register not in self.values and register in GLOBALS:
-            self.values[register] = self.value()
-        return self.values.get(register, self.window_values[window_number(nesting, register) % 128])
+        """Those that hold an address do so in every window."""
+        if register in self.values:
+            return self.values[register]
+        return self.value() if register in GLOBALS else self.window_values[window_number(nesting, register)]
 
     def closing(self):
         """Begins with a nop, since a branch in a delay slot may run or annul the first word alone; then down to window
