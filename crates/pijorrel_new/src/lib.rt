@@ -11,18 +11,17 @@ use machine::Ended;
 use machine::Flags;
 use machine::SourcePc;
 use machine::TargetPc;
+use machine::registers::FILE;
 use machine::registers::File;
 use model::NEW_BEHIND;
 use model::NEW_STATE;
 use model::NewControl;
-use model::NewCore;
 
-// The state that bytes stand for.
-fn decode(state: &[u8; NEW_STATE]) -> NewCore
-    ensures { λ r. ⌜ ((a : List ℕ) → newState (zeroed (r .registers)) (r .control) a ≡ newIn (now (state .entry)) a) ⌝ }
+// The state that bytes stand for, its file lent.
+fn decode(state: &[u8; NEW_STATE], regs: &mut File) -> NewControl
+    ensures { λ r. ⌜ ((a : List ℕ) → newState (zeroed (now (regs .exit))) r a ≡ newIn (now (state .entry)) a) ⌝ }
 {
-    let mut regs = model::file_in(state, NEW_BEHIND);
-    machine::windows::come_in(&mut regs);
+    model::file_in(state, NEW_BEHIND, regs);
     let nzvc = numbers::read_number(state, 128) % 16;
     let k = TargetPc(numbers::read_number(state, 132));
     let h = SourcePc(numbers::read_number(state, 136));
@@ -31,15 +30,11 @@ fn decode(state: &[u8; NEW_STATE]) -> NewCore
         numbers::read_number(state, 144),
     );
     let f = Flags { nzvc };
-    let c = NewControl {
+    NewControl {
         flags: f,
         at: k,
         held: h,
         end: e,
-    };
-    NewCore {
-        registers: regs,
-        control: c,
     }
 }
 
@@ -53,7 +48,6 @@ fn encode(regs: &mut File, c: NewControl, state: &mut [u8; NEW_STATE]) -> Ended
     let e = c.end;
     let r = machine::numbers_of(e);
     let rest = [f.nzvc, k.0, h.0, r.end, r.number];
-    machine::windows::lay_down(regs);
     model::put_state(state, regs, &rest);
     r
 }
@@ -69,10 +63,10 @@ pub extern "C" fn pijorrel_new_begin(
 ) -> Ended
     ensures { λ r. ⌜ after (r .end) (r .number) (now (state .exit)) [] ≡ newBegins (now (places .entry)) base size a (now (state .entry)) ⌝ }
 {
-    let mut core = decode(state);
-    let c = core.control;
-    let k = new_core::begin(places, base, size, &mut core.registers, c, SourcePc(a));
-    encode(&mut core.registers, k, state)
+    let mut regs = [0u32; FILE];
+    let c = decode(state, &mut regs);
+    let k = new_core::begin(places, base, size, &mut regs, c, SourcePc(a));
+    encode(&mut regs, k, state)
 }
 
 // Does count records, or fewer where the run ends.
@@ -89,18 +83,8 @@ pub extern "C" fn pijorrel_new_run(
 ) -> Ended
     ensures { λ r. ⌜ after (r .end) (r .number) (now (state .exit)) (now (area .exit)) ≡ newRuns (now (records .entry)) (now (places .entry)) base size db count (now (state .entry)) (now (area .entry)) ⌝ }
 {
-    let mut core = decode(state);
-    let c = core.control;
-    let k = new_core::run(
-        records,
-        places,
-        base,
-        size,
-        db,
-        &mut core.registers,
-        c,
-        area,
-        count,
-    );
-    encode(&mut core.registers, k, state)
+    let mut regs = [0u32; FILE];
+    let c = decode(state, &mut regs);
+    let k = new_core::run(records, places, base, size, db, &mut regs, c, area, count);
+    encode(&mut regs, k, state)
 }

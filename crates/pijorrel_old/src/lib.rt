@@ -10,18 +10,17 @@ ghost use Rattle.model.specs.StateBytes.{oldIn, oldBytes, after, oldBegins, old
 use machine::Ended;
 use machine::Flags;
 use machine::SourcePc;
+use machine::registers::FILE;
 use machine::registers::File;
 use model::OLD_BEHIND;
 use model::OLD_STATE;
 use model::OldControl;
-use model::OldCore;
 
-// The state that bytes stand for.
-fn decode(state: &[u8; OLD_STATE]) -> OldCore
-    ensures { λ r. ⌜ ((a : List ℕ) → oldState (zeroed (r .registers)) (r .control) a ≡ oldIn (now (state .entry)) a) ⌝ }
+// The state that bytes stand for, its file lent.
+fn decode(state: &[u8; OLD_STATE], regs: &mut File) -> OldControl
+    ensures { λ r. ⌜ ((a : List ℕ) → oldState (zeroed (now (regs .exit))) r a ≡ oldIn (now (state .entry)) a) ⌝ }
 {
-    let mut regs = model::file_in(state, OLD_BEHIND);
-    machine::windows::come_in(&mut regs);
+    model::file_in(state, OLD_BEHIND, regs);
     let nzvc = numbers::read_number(state, 128) % 16;
     let p = SourcePc(numbers::read_number(state, 132));
     let n = SourcePc(numbers::read_number(state, 136));
@@ -31,16 +30,12 @@ fn decode(state: &[u8; OLD_STATE]) -> OldCore
         numbers::read_number(state, 148),
     );
     let f = Flags { nzvc };
-    let c = OldControl {
+    OldControl {
         flags: f,
         pc: p,
         npc: n,
         annul: a,
         end: e,
-    };
-    OldCore {
-        registers: regs,
-        control: c,
     }
 }
 
@@ -55,7 +50,6 @@ fn encode(regs: &mut File, c: OldControl, state: &mut [u8; OLD_STATE]) -> Ended
     let r = machine::numbers_of(e);
     let annul = machine::bit(c.annul != 0);
     let rest = [f.nzvc, p.0, n.0, annul, r.end, r.number];
-    machine::windows::lay_down(regs);
     model::put_state(state, regs, &rest);
     r
 }
@@ -65,10 +59,10 @@ fn encode(regs: &mut File, c: OldControl, state: &mut [u8; OLD_STATE]) -> Ended
 pub extern "C" fn pijorrel_old_begin(pc: u32, state: &mut [u8; OLD_STATE])
     ensures { λ _. ⌜ now (state .exit) ≡ oldBegins pc (now (state .entry)) ⌝ }
 {
-    let mut core = decode(state);
-    let c = core.control;
-    let k = old_core::begin(&mut core.registers, c, SourcePc(pc));
-    let _r = encode(&mut core.registers, k, state);
+    let mut regs = [0u32; FILE];
+    let c = decode(state, &mut regs);
+    let k = old_core::begin(&mut regs, c, SourcePc(pc));
+    let _r = encode(&mut regs, k, state);
 }
 
 // Passes count words, or fewer where the run ends.
@@ -83,8 +77,8 @@ pub extern "C" fn pijorrel_old_run(
 ) -> Ended
     ensures { λ r. ⌜ after (r .end) (r .number) (now (state .exit)) (now (area .exit)) ≡ oldRuns (now (image .entry)) base db count (now (state .entry)) (now (area .entry)) ⌝ }
 {
-    let mut core = decode(state);
-    let c = core.control;
-    let k = old_core::run(image, base, db, &mut core.registers, c, area, count);
-    encode(&mut core.registers, k, state)
+    let mut regs = [0u32; FILE];
+    let c = decode(state, &mut regs);
+    let k = old_core::run(image, base, db, &mut regs, c, area, count);
+    encode(&mut regs, k, state)
 }

@@ -8,9 +8,6 @@ use Rattle.pijorrel_new.proofs.decode.Tie as tie
 file-in-requires : tie.Need-file-in-requires
 file-in-requires c κs = search needs
 
-come-in-requires : tie.Need-come-in-requires
-come-in-requires c κs = search needs
-
 read-number-requires : tie.Need-read-number-requires
 read-number-requires c κs = search needs
 
@@ -38,8 +35,7 @@ returns c = λ a. rw (
   c .before .before .before .before .before .read-number3 .ensures,
   c .before .before .before .before .before .before .before .read-number2 .ensures,
   c .before .before .before .before .before .before .before .before .before .read-number .ensures,
-  c .before .before .before .before .before .before .before .before .before .before .before .come-in .ensures,
-  c .before .before .before .before .before .before .before .before .before .before .before .before .before .file-in .ensures,
+  c .before .before .before .before .before .before .before .before .before .before .before .file-in .ensures,
   in-zeroed,
 )
 
@@ -48,7 +44,6 @@ decode-spec =
     tie.close
     (tie.spec
     file-in-requires
-    come-in-requires
     read-number-requires
     read-number-requires-2
     read-number-requires-3
