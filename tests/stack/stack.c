@@ -1,5 +1,5 @@
 /* How much stack each call takes, on x86-64: a thread with a painted stack makes the call, and the paint that is left is
- * counted. The header states the bounds that are asked here. To be linked with -z now, so that memset is bound before a
+ * counted. A state is its caller's, and not counted. The header states the bounds that are asked here. To be linked with -z now, so that memset is bound before a
  * thread begins: else the dynamic linker does it at the first call, on the stack that is measured. */
 #define _POSIX_C_SOURCE 200809L
 #include <pthread.h>
@@ -26,7 +26,7 @@ static void *translate(void *argument)
 
 static void *run_old(void *argument)
 {
-    uint8_t state[PIJORREL_OLD_STATE] = { 0 };
+    static uint8_t state[PIJORREL_OLD_STATE];
     pijorrel_old_begin(0, state);
     pijorrel_old_run(image, sizeof image, 0, 0, state, data, sizeof data, 65535);
     return argument;
@@ -34,7 +34,7 @@ static void *run_old(void *argument)
 
 static void *run_new(void *argument)
 {
-    uint8_t state[PIJORREL_NEW_STATE] = { 0 };
+    static uint8_t state[PIJORREL_NEW_STATE];
     pijorrel_new_begin(places, sizeof places, 0, IMAGE, 0, state);
     pijorrel_new_run(records, sizeof records, places, sizeof places, 0, IMAGE, 0, state, data, sizeof data, 65535);
     return argument;

@@ -37,9 +37,9 @@ use Rattle.machine.specs.Registers.{fileSize, registerOf, putRegister, y
 use Rattle.machine.specs.Arithmetic.{top, Outcome, outcome, sumOf, differenceOf, logicOf, flipped, shiftedLeft, shiftedRight, shiftedSigned, exactProduct, productOf, shiftOf, outcomeOf, carryOf, putHigh, arithmeticOf}
 use Rattle.machine.specs.DataArea.{widthOf, signOf, sizeOf, valueAt, putValue, loadedAt, access, loadOf, storeOf}
 use Rattle.machine.specs.Effect.{Machine, trapOf, withRegisters, withArea, effectOf}
-use Rattle.machine.specs.Windows.{nestingOf, Clear, turned, windowOf}
+use Rattle.machine.specs.Windows.{nestingOf, Clear, Held, turned, windowOf}
 use Rattle.machine.proofs.Zero.{Zero, put-zero, y-zero}
-use Rattle.machine.proofs.Ring.{Held, put-nesting, put-clear, y-nesting, y-clear, turned-length, turned-below, turned-nesting, turned-clear, turned-low}
+use Rattle.machine.proofs.Ring.{put-nesting, put-clear, y-nesting, y-clear, turned-length, turned-below, turned-nesting, turned-clear, turned-low}
 use Rattle.machine.proofs.Products.{modulo-lt}
 
 pub record Sound (n : ℕ) (m : Machine) : Type 0 where

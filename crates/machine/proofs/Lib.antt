@@ -5,5 +5,6 @@ pub mod ProductsExact
 pub mod Effects
 pub mod Zero
 pub mod Ring
+pub mod WindowLaws
 pub mod Bounds
 pub mod Opened

@@ -14,7 +14,7 @@ use Rattle.numbers.specs.Choice.{pick}
 use Rattle.numbers.specs.Number.{Below}
 use Rattle.numbers.proofs.Bounds.{below-get, below-set}
 use Rattle.machine.specs.Registers.{fileSize, putRegister, putY}
-use Rattle.machine.specs.Windows.{nestingOf, placeOf, putEach, ringPlace, laid, taken, cleared, Clear, nested, comeIn, turned}
+use Rattle.machine.specs.Windows.{nestingOf, placeOf, putEach, ringPlace, laid, taken, cleared, Clear, Held, nested, comeIn, turned}
 
 -- ---------------------------------------------------------------- the ring
 -- the number of register 8 + k within its window: ins, locals, outs
@@ -300,7 +300,7 @@ module _ (v : ℕ) (rs : List ℕ) where
 
 -- ---------------------------------------------------------------- what comes in and what is shown
 -- the register at a position, if there is one among the first n of a window
-data Among (w n i : ℕ) : Type 0 where
+pub data Among (w n i : ℕ) : Type 0 where
   covered : (k : ℕ) → k < n → i ≡ ringPlace w k → Among w n i
   free : ((k : ℕ) → k < n → i ≡ ringPlace w k → ⊥) → Among w n i
 
@@ -317,18 +317,11 @@ among w (suc n) i = go (eqb i (ringPlace w n)) refl (among w n i)
         past k h e true p = eqb-false i (ringPlace w n) q (rw (← eqb-true k n p) e)
         past k h e false p = let d : k ≡ n → ⊥ = eqb-false k n p in f k (omega (arith, d)) e
 
-abbrev Covered : ℕ → ℕ → Type 0
+abbrev pub Covered : ℕ → ℕ → Type 0
 Covered w i = Among w 24 i
 
-covers : (w i : ℕ) → Covered w i
+pub covers : (w i : ℕ) → Covered w i
 covers w i = among w 24 i
-
--- a file as a run has it
-pub record Held (rs : List ℕ) : Type 0 where
-  pub whole : length rs ≡ fileSize
-  pub zero : getD rs 0 0 ≡ 0
-  pub clear : Clear rs
-  pub nesting : nestingOf rs ≤ 6
 
 -- what is shown, with its window's places cleared, is the file again
 cleared-laid : (rs : List ℕ) → length rs ≡ fileSize → Clear rs → cleared (nestingOf rs) (laid rs) ≡ rs

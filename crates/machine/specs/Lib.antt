@@ -5,4 +5,5 @@ pub mod FlagsExact
 pub mod ProductsExact
 pub mod DataArea
 pub mod Windows
+pub mod WindowLaws
 pub mod Effect

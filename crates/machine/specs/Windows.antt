@@ -14,16 +14,16 @@
 --
 --     34      42        50      58        ..  146     154       162
 --     | ins 0 | locals 0 | ins 1 | locals 1 | .. | ins 7 | locals 7 |
-use Prim.Native.Nat.{ℕ, zero, suc, _+_, _-_, _*_, _/_, _%_, _<_, min}
+use Prim.Native.Nat.{ℕ, zero, suc, _+_, _-_, _*_, _/_, _%_, _<_, _≤_, min}
 use mathlib.Core.Path.{_≡_}
 use mathlib.Core.List.{List}
 use lib.Dec.{ltb}
-use lib.ListN.{getD, set}
+use lib.ListN.{length, getD, set}
 use Rattle.numbers.specs.Choice.{pick}
 use Rattle.words.specs.declared.WindowOperation.{WindowOperation}
 use Rattle.words.specs.declared.WindowOperation.the-variants.{Save, Restore}
 use Rattle.machine.specs.Ends.{ending, Next, go, halt}
-use Rattle.machine.specs.Registers.{putRegister}
+use Rattle.machine.specs.Registers.{fileSize, putRegister}
 
 unfoldable pub nestingOf : List ℕ → ℕ
 nestingOf rs = getD rs 33 0
@@ -55,6 +55,13 @@ cleared w rs = putEach (ringPlace w) (λ k. 0) 24 rs
 
 abbrev pub Clear : List ℕ → Type 0
 Clear rs = (k : ℕ) → k < 24 → getD rs (ringPlace (nestingOf rs) k) 0 ≡ 0
+
+-- a file as every state of a run has it
+pub record Held (rs : List ℕ) : Type 0 where
+  pub whole : length rs ≡ fileSize
+  pub zero : getD rs 0 0 ≡ 0
+  pub clear : Clear rs
+  pub nesting : nestingOf rs ≤ 6
 
 -- what comes in: "a nesting handed in above 6 counts as 6", and what repeats the current window is not looked at
 unfoldable pub nested : List ℕ → List ℕ
