@@ -15,7 +15,8 @@ static const struct translation {
     { arithmetic_places, arithmetic_records, sizeof arithmetic_places, sizeof arithmetic_records },
     { memory_places, memory_records, sizeof memory_places, sizeof memory_records },
     { mixed_places, mixed_records, sizeof mixed_places, sizeof mixed_records },
-    { products_places, products_records, sizeof products_places, sizeof products_records }
+    { products_places, products_records, sizeof products_places, sizeof products_records },
+    { calls_places, calls_records, sizeof calls_places, sizeof calls_records }
 };
 
 struct pijorrel_end library_run(const struct program *p, uint8_t *state, uint8_t *data, size_t data_length,
