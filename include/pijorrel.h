@@ -187,7 +187,10 @@ struct pijorrel_end pijorrel_new_run(const uint8_t *records, size_t records_leng
  * go to Y, the low ones to rd, and the last two set N and Z from the low ones and clear V and C. rdy, form 168, copies
  * Y to rd and has no other number; a word with its op3 and any of bits 18 to 0 set is not known. wry, form 176, writes
  * rs1 xor the second operand to Y, where the next word finds it; it has no rd, and with any of bits 29 to 25 set it is
- * not known. */
+ * not known.
+ *
+ * Windows. save and restore, forms 188 and 189, add rs1 and the second operand as the old window has them and write the
+ * sum to rd of the new one; they set no flags. */
 #define PIJORREL_INSTRUCTION 24
 
 /* 0 and the word; or 7 and the bits of the field that a number does not fit, of several the highest in the word, and 0
