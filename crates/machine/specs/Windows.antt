@@ -12,7 +12,7 @@
 --
 -- The windows lie in a ring of 128 numbers behind Y and the nesting, and the outs of window 7 are the ins of window 0:
 --
---     34      42        50      58        ..  146     154       162
+--     34      42         50      58              146     154        162
 --     | ins 0 | locals 0 | ins 1 | locals 1 | .. | ins 7 | locals 7 |
 use Prim.Native.Nat.{ℕ, zero, suc, _+_, _-_, _*_, _/_, _%_, _<_, _≤_, min}
 use mathlib.Core.Path.{_≡_}

@@ -69,9 +69,8 @@ pub const DEEPEST: u32 = 6;
 /// The ins and locals of eight windows, eight of each.
 pub const WINDOWED: usize = 16 * WINDOWS;
 
-/// Where a register from 8 to 31 stands among the 128: "block w has window w's ins (registers 24 to 31), then its
-/// locals (registers 16 to 23). Window w's outs (registers 8 to 15) are the ins of window w + 1, and window 7's those of
-/// window 0".
+/// Where a register from 8 to 31 stands among the 128, as the header has them: block w has window w's ins, then its
+/// locals; its outs are the ins of window w + 1, and window 7's those of window 0.
 fn windowed(window: usize, register: usize) -> usize {
     let next = (window + 1) % WINDOWS;
     match register {
@@ -116,8 +115,8 @@ impl Machine {
         machine
     }
 
-    /// The same with any nesting and windows: "a nesting handed in above 6 counts as 6"; "registers 8 to 31 count and
-    /// the 24 numbers that repeat them are not looked at".
+    /// The same with any nesting and windows: "a nesting handed in above 6 counts as 6"; registers 8 to 31 count, and
+    /// the 24 numbers that repeat them are not looked at.
     pub fn within(self, nesting: u32, windows: [u32; WINDOWED]) -> Machine {
         let registers = self.registers();
         let mut machine = self;
@@ -133,7 +132,7 @@ impl Machine {
         }
     }
 
-    /// "Registers 0 to 31 of a state are those of the current window".
+    /// Those of the current window, as a state has them.
     pub fn registers(&self) -> [u32; 32] {
         std::array::from_fn(|register| self.read(register))
     }

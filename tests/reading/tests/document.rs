@@ -515,8 +515,8 @@ fn laid_over(mut numbers: Vec<u32>, window: usize) -> Vec<u32> {
     numbers
 }
 
-/// "On the way in registers 8 to 31 count and the 24 numbers that repeat them are not looked at; on the way out they are
-/// equal", also of ended states and after a begin; "A nesting above 6 counts as 6"; "ends 1 to 9 count as ended".
+/// Lent, registers 8 to 31 count and the 24 numbers that repeat them are not looked at; left, they are equal, also of
+/// ended states and after a begin; "a nesting handed in above 6 counts as 6"; ends 1 to 9 count as ended.
 #[test]
 fn windows_in_state_bytes() {
     let program = Program {
