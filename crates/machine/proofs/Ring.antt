@@ -10,7 +10,6 @@ use lib.Dec.{eqb, ltb}
 use lib.ListN.{length, getD, set, length-set}
 use lib.Seq.{getD-set-same, getD-set-other, set-comm, ext-getD}
 use borrow.Author.Tests.{eqb-true, eqb-false, ltb-true, ltb-false, le-ltb}
-use Rattle.numbers.specs.Choice.{pick}
 use Rattle.numbers.specs.Number.{Below}
 use Rattle.numbers.proofs.Bounds.{below-get, below-set}
 use Rattle.machine.specs.Registers.{fileSize, putRegister, putY}

@@ -11,13 +11,13 @@ use lib.ListN.{length, getD, set}
 use lib.Seq.{getD-set-same, getD-set-other}
 use borrow.Author.Tests.{eqb-true, eqb-false, lt-ltb, le-ltb, ltb-true, ltb-false}
 use Rattle.words.specs.declared.WindowOperation.the-variants.{Save, Restore}
-use Rattle.machine.specs.Ends.{ending, Next, go, halt}
+use Rattle.machine.specs.Ends.{ending, go, halt}
 use Rattle.machine.specs.Registers.{fileSize, registerOf, putRegister, yOf}
-use Rattle.machine.specs.Windows.{nestingOf, placeOf, ringPlace, laid, taken, cleared, Held, comeIn, turned, windowOf}
-use Rattle.machine.specs.WindowLaws.{Place, inWindow, Left, Turned, after, savesOf, WindowLaws}
+use Rattle.machine.specs.Windows.{nestingOf, placeOf, ringPlace, laid, taken, cleared, Held, turned, windowOf}
+use Rattle.machine.specs.WindowLaws.{Place, inWindow, Left, Turned, savesOf, WindowLaws}
 use Rattle.machine.proofs.Zero.{put-zero}
 use Rattle.machine.proofs.Bounds.{put-length}
-use Rattle.machine.proofs.Ring.{ring-past, ring-lt, ring-apart, Covered, covered, free, covers, laid-low, laid-free, laid-own, laid-length, cleared-low, cleared-free, taken-other, taken-own, taken-length, put-nesting, put-clear, turned-length, turned-nesting, turned-clear, turned-low, in-alike}
+use Rattle.machine.proofs.Ring.{ring-past, ring-lt, ring-apart, Covered, covered, free, covers, laid-low, laid-free, laid-own, laid-length, cleared-low, cleared-free, taken-other, taken-own, put-nesting, put-clear, turned-length, turned-nesting, turned-clear, turned-low, in-alike}
 
 -- ---------------------------------------------------------------- places
 -- a register from 8 on stands in the ring

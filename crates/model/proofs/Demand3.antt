@@ -5,14 +5,13 @@ use native.Mathlib.Omega.{arith}
 use mathlib.Core.Path.{_≡_, refl, sym, ap, _∙_}
 use mathlib.Core.Logic.{_↔_}
 use mathlib.Core.Bool.{Bool, true, false}
-use mathlib.Core.List.{List, _∷_}
+use mathlib.Core.List.{List}
 use mathlib.Core.Option.{none, some}
 use lib.ListN.{length, getD, take}
-use Rattle.numbers.specs.Number.{Below, plus, upTo, bytesOf}
+use Rattle.numbers.specs.Number.{Below, plus, bytesOf}
 use Rattle.numbers.proofs.Bounds.{below-bytes}
-use Rattle.numbers.proofs.Lists.{length-up}
 use Rattle.machine.specs.Ends.{Ending, ending, halt, State, state, live, settle}
-use Rattle.machine.specs.Registers.{fileSize, yOf}
+use Rattle.machine.specs.Registers.{yOf}
 use Rattle.machine.specs.Windows.{nestingOf, placeOf, laid as laidDown, comeIn}
 use Rattle.machine.specs.Effect.{Machine, machine}
 use Rattle.machine.proofs.Ring.{laid-low, laid-free, laid-own, laid-length, laid-nesting, in-low, in-nesting, in-free}

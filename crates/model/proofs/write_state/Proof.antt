@@ -3,7 +3,6 @@ use native.Mathlib.Omega.{arith}
 use mathlib.Core.Path.{_≡_, refl, sym}
 use lib.ListN.{length, take, drop, length-drop}
 use lib.Seq.{length-take-le, take-all}
-use Rattle.machine.specs.Registers.{fileSize}
 use Rattle.model.proofs.Filled.{fill-state}
 use borrow.Author.Needs.{needs}
 use Rattle.model.proofs.write_state.Statement.{statement}

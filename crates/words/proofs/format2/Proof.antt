@@ -1,4 +1,4 @@
-use mathlib.Core.Path.{sym, ap, _∙_}
+use mathlib.Core.Path.{ap, _∙_}
 use Rattle.words.specs.Reader.{format2Of, strictly}
 use Rattle.words.proofs.Reader.{behind-row2}
 use borrow.Author.Needs.{needs}

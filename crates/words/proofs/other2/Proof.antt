@@ -1,4 +1,4 @@
-use mathlib.Core.Path.{sym, ap}
+use mathlib.Core.Path.{ap}
 use Rattle.words.specs.Reader.{unusedSet, strictly}
 use Rattle.words.proofs.Reader.{no-row-other}
 use borrow.Author.Needs.{needs}

@@ -2,10 +2,6 @@ use Rattle.machine.proofs.Ring.{cleared-eights}
 use borrow.Author.Needs.{needs}
 use Rattle.machine.proofs.windows.clear.Statement.{statement}
 use Rattle.machine.proofs.windows.clear.Tie as tie
-use Rattle.machine.proofs.windows.clear.Reads as reads
-use Rattle.machine.proofs.windows.clear.Lts as lts
-use Rattle.machine.proofs.windows.clear_eight.Reads as clear-eight-reads
-use Rattle.machine.proofs.windows.place.Reads as place-reads
 
 place-requires : tie.Need-place-requires
 place-requires c κs = search needs

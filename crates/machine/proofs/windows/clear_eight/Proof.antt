@@ -3,8 +3,6 @@ use native.Mathlib.Nat.{add-zero}
 use borrow.Author.Needs.{needs}
 use Rattle.machine.proofs.windows.clear_eight.Statement.{statement}
 use Rattle.machine.proofs.windows.clear_eight.Tie as tie
-use Rattle.machine.proofs.windows.clear_eight.Reads as reads
-use Rattle.machine.proofs.windows.clear_eight.Lts as lts
 
 mul-regs : tie.Need-mul-regs
 mul-regs c = search needs

@@ -2,11 +2,6 @@ use Rattle.machine.specs.Windows.{nested, comeIn}
 use borrow.Author.Needs.{needs}
 use Rattle.machine.proofs.windows.come_in.Statement.{statement}
 use Rattle.machine.proofs.windows.come_in.Tie as tie
-use Rattle.machine.proofs.windows.come_in.Reads as reads
-use Rattle.machine.proofs.windows.come_in.Lts as lts
-use Rattle.machine.proofs.windows.at_most_6.Reads as at-most-6-reads
-use Rattle.machine.proofs.windows.clear.Reads as clear-reads
-use Rattle.machine.proofs.windows.nesting.Reads as nesting-reads
 
 nesting-requires : tie.Need-nesting-requires
 nesting-requires c κs = search needs

@@ -3,8 +3,6 @@ use Rattle.machine.specs.Windows.{putEach}
 use borrow.Author.Needs.{needs}
 use Rattle.machine.proofs.windows.copy_eight.Statement.{statement}
 use Rattle.machine.proofs.windows.copy_eight.Tie as tie
-use Rattle.machine.proofs.windows.copy_eight.Reads as reads
-use Rattle.machine.proofs.windows.copy_eight.Lts as lts
 
 mul-a : tie.Need-mul-a
 mul-a c = search needs

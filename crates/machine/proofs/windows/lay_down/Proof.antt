@@ -2,11 +2,6 @@ use Rattle.machine.proofs.Ring.{laid-eights}
 use borrow.Author.Needs.{needs}
 use Rattle.machine.proofs.windows.lay_down.Statement.{statement}
 use Rattle.machine.proofs.windows.lay_down.Tie as tie
-use Rattle.machine.proofs.windows.lay_down.Reads as reads
-use Rattle.machine.proofs.windows.lay_down.Lts as lts
-use Rattle.machine.proofs.windows.copy_eight.Reads as copy-eight-reads
-use Rattle.machine.proofs.windows.nesting.Reads as nesting-reads
-use Rattle.machine.proofs.windows.place.Reads as place-reads
 
 nesting-requires : tie.Need-nesting-requires
 nesting-requires c κs = search needs

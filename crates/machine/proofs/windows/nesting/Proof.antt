@@ -3,8 +3,6 @@ use mathlib.Core.Path.{refl}
 use borrow.Author.Needs.{needs}
 use Rattle.machine.proofs.windows.nesting.Statement.{statement}
 use Rattle.machine.proofs.windows.nesting.Tie as tie
-use Rattle.machine.proofs.windows.nesting.Reads as reads
-use Rattle.machine.proofs.windows.nesting.Lts as lts
 
 element-copy-out-result : tie.Need-element-copy-out-result
 element-copy-out-result c = search needs

@@ -2,8 +2,6 @@ use Rattle.machine.proofs.Ring.{place-of-eight, eight-fits}
 use borrow.Author.Needs.{needs}
 use Rattle.machine.proofs.windows.place.Statement.{statement}
 use Rattle.machine.proofs.windows.place.Tie as tie
-use Rattle.machine.proofs.windows.place.Reads as reads
-use Rattle.machine.proofs.windows.place.Lts as lts
 
 mul-result : tie.Need-mul-result
 mul-result c = search needs

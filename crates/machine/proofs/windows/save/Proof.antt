@@ -4,11 +4,6 @@ use Rattle.machine.specs.Windows.{windowOf}
 use borrow.Author.Needs.{needs}
 use Rattle.machine.proofs.windows.save.Statement.{statement}
 use Rattle.machine.proofs.windows.save.Tie as tie
-use Rattle.machine.proofs.windows.save.Reads as reads
-use Rattle.machine.proofs.windows.save.Lts as lts
-use Rattle.machine.proofs.registers.put.Reads as put-reads
-use Rattle.machine.proofs.windows.nesting.Reads as nesting-reads
-use Rattle.machine.proofs.windows.turn.Reads as turn-reads
 
 nesting-requires : tie.Need-nesting-requires
 nesting-requires c κs = search needs

@@ -2,10 +2,6 @@ use Rattle.machine.proofs.Ring.{taken-eights}
 use borrow.Author.Needs.{needs}
 use Rattle.machine.proofs.windows.take_up.Statement.{statement}
 use Rattle.machine.proofs.windows.take_up.Tie as tie
-use Rattle.machine.proofs.windows.take_up.Reads as reads
-use Rattle.machine.proofs.windows.take_up.Lts as lts
-use Rattle.machine.proofs.windows.copy_eight.Reads as copy-eight-reads
-use Rattle.machine.proofs.windows.place.Reads as place-reads
 
 place-requires : tie.Need-place-requires
 place-requires c κs = search needs

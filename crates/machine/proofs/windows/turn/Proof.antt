@@ -2,11 +2,6 @@ use Rattle.machine.specs.Windows.{turned}
 use borrow.Author.Needs.{needs}
 use Rattle.machine.proofs.windows.turn.Statement.{statement}
 use Rattle.machine.proofs.windows.turn.Tie as tie
-use Rattle.machine.proofs.windows.turn.Reads as reads
-use Rattle.machine.proofs.windows.turn.Lts as lts
-use Rattle.machine.proofs.windows.clear.Reads as clear-reads
-use Rattle.machine.proofs.windows.lay_down.Reads as lay-down-reads
-use Rattle.machine.proofs.windows.take_up.Reads as take-up-reads
 
 lay-down-requires : tie.Need-lay-down-requires
 lay-down-requires c κs = search needs

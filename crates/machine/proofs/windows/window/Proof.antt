@@ -1,11 +1,6 @@
 use borrow.Author.Needs.{needs}
 use Rattle.machine.proofs.windows.window.Statement.{statement}
 use Rattle.machine.proofs.windows.window.Tie as tie
-use Rattle.machine.proofs.windows.window.Reads as reads
-use Rattle.machine.proofs.windows.window.Lts as lts
-use Rattle.machine.proofs.registers.address.Reads as address-reads
-use Rattle.machine.proofs.windows.restore.Reads as restore-reads
-use Rattle.machine.proofs.windows.save.Reads as save-reads
 
 address-requires : tie.Need-address-requires
 address-requires c κs = search needs
