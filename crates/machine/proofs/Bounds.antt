@@ -6,7 +6,6 @@ use native.Mathlib.Nat.{div-le-self}
 use mathlib.Core.Path.{_≡_, refl, _∙_}
 use mathlib.Core.Bool.{Bool, true, false}
 use mathlib.Core.List.{List}
-use mathlib.Core.Logic.{inl}
 use mathlib.Core.Option.{Option, none, some}
 use lib.Bits.{and-lt, or-lt, xor-lt}
 use lib.Dec.{eqb, leb, ltb}
@@ -38,8 +37,8 @@ use Rattle.machine.specs.Arithmetic.{top, Outcome, outcome, sumOf, diffe
 use Rattle.machine.specs.DataArea.{widthOf, signOf, sizeOf, valueAt, putValue, loadedAt, access, loadOf, storeOf}
 use Rattle.machine.specs.Effect.{Machine, trapOf, withRegisters, withArea, effectOf}
 use Rattle.machine.specs.Windows.{nestingOf, Clear, Held, turned, windowOf}
-use Rattle.machine.proofs.Zero.{Zero, put-zero, y-zero}
-use Rattle.machine.proofs.Ring.{put-nesting, put-clear, y-nesting, y-clear, turned-length, turned-below, turned-nesting, turned-clear, turned-low}
+use Rattle.machine.proofs.Zero.{Zero, y-zero}
+use Rattle.machine.proofs.Ring.{put-held, y-nesting, y-clear, turned-below, turned-held}
 use Rattle.machine.proofs.Products.{modulo-lt}
 
 pub record Sound (n : ℕ) (m : Machine) : Type 0 where
@@ -110,19 +109,16 @@ unfolding instructionOf
 word-fits word = left-strictly (λ (i : Instruction). fitsIn i ≡ true) word _ refl (format-fits (bits word 30 2) word)
 
 -- ---------------------------------------------------------------- registers
-pub put-length : (rs : List ℕ) (i v : ℕ) → length (putRegister rs i v) ≡ length rs
-unfolding putRegister
-put-length rs i v = length-set (set rs (i % 32) v) 0 0 ∙ length-set rs (i % 32) v
-
 pub put-sound : (n : ℕ) (m : Machine) (i v : ℕ) → Sound n m → v < 2 ^ 32 → Sound n (withRegisters m (putRegister (m .registers) i v))
 unfolding putRegister
 put-sound n m i v s h =
+    let k = put-held (m .registers) (held n m s) i v in
     record {
-      whole = put-length (m .registers) i v ∙ s .whole;
+      whole = k .whole;
       registers = below-set (2 ^ 32) (set (m .registers) (i % 32) v) 0 0 (omega arith) (below-set (2 ^ 32) (m .registers) (i % 32) v h (s .registers));
-      zero = put-zero (m .registers) i v;
-      clear = put-clear (m .registers) i v (s .clear);
-      nesting = rw (put-nesting (m .registers) i v) (s .nesting);
+      zero = k .zero;
+      clear = k .clear;
+      nesting = k .nesting;
       flags = s .flags;
       area = s .area;
       sized = s .sized;
@@ -144,12 +140,13 @@ y-sound n m v s h =
 
 turn-sound : (n : ℕ) (m : Machine) (v : ℕ) → Sound n m → v ≤ 6 → Sound n (withRegisters m (turned v (m .registers)))
 turn-sound n m v s h =
+    let k = turned-held (m .registers) (held n m s) v h in
     record {
-      whole = turned-length v (m .registers) ∙ s .whole;
+      whole = k .whole;
       registers = turned-below v (m .registers) (omega arith) (s .registers);
-      zero = turned-low v (m .registers) 0 (inl (omega arith)) ∙ s .zero;
-      clear = turned-clear v (m .registers) (s .whole);
-      nesting = rw (turned-nesting v (m .registers) (s .whole)) h;
+      zero = k .zero;
+      clear = k .clear;
+      nesting = k .nesting;
       flags = s .flags;
       area = s .area;
       sized = s .sized;

@@ -13,6 +13,7 @@ use borrow.Author.Tests.{eqb-true, eqb-false, ltb-true, ltb-false, le-ltb}
 use Rattle.numbers.specs.Number.{Below}
 use Rattle.numbers.proofs.Bounds.{below-get, below-set}
 use Rattle.machine.specs.Registers.{fileSize, putRegister, putY}
+use Rattle.machine.proofs.Zero.{put-zero}
 use Rattle.machine.specs.Windows.{nestingOf, placeOf, putEach, ringPlace, laid, taken, cleared, Clear, Held, nested, comeIn, turned}
 
 -- ---------------------------------------------------------------- the ring
@@ -296,6 +297,29 @@ module _ (v : ℕ) (rs : List ℕ) where
   turned-low i (inr h) =
       getD-set-other (cleared v up) 33 i v 0 (λ e. omega arith) ∙ cleared-low v up i (omega arith) ∙ taken-other v (laid rs) i (inr (omega arith))
       ∙ laid-low rs i (omega arith)
+
+-- a register that is written and a window that is turned to leave a file as a run has it
+pub put-length : (rs : List ℕ) (i v : ℕ) → length (putRegister rs i v) ≡ length rs
+unfolding putRegister
+put-length rs i v = length-set (set rs (i % 32) v) 0 0 ∙ length-set rs (i % 32) v
+
+pub put-held : (rs : List ℕ) → Held rs → (i v : ℕ) → Held (putRegister rs i v)
+put-held rs h i v =
+    record {
+      whole = put-length rs i v ∙ h .whole;
+      zero = put-zero rs i v;
+      clear = put-clear rs i v (h .clear);
+      nesting = rw (put-nesting rs i v) (h .nesting);
+    }
+
+pub turned-held : (rs : List ℕ) → Held rs → (v : ℕ) → v ≤ 6 → Held (turned v rs)
+turned-held rs h v few =
+    record {
+      whole = turned-length v rs ∙ h .whole;
+      zero = turned-low v rs 0 (inl (omega arith)) ∙ h .zero;
+      clear = turned-clear v rs (h .whole);
+      nesting = rw (turned-nesting v rs (h .whole)) few;
+    }
 
 -- ---------------------------------------------------------------- what comes in and what is shown
 -- the register at a position, if there is one among the first n of a window

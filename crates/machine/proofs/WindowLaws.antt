@@ -16,8 +16,7 @@ use Rattle.machine.specs.Registers.{fileSize, registerOf, putRegister, y
 use Rattle.machine.specs.Windows.{nestingOf, placeOf, ringPlace, laid, taken, cleared, Held, turned, windowOf}
 use Rattle.machine.specs.WindowLaws.{Place, inWindow, Left, Turned, savesOf, WindowLaws}
 use Rattle.machine.proofs.Zero.{put-zero}
-use Rattle.machine.proofs.Bounds.{put-length}
-use Rattle.machine.proofs.Ring.{ring-past, ring-lt, ring-apart, Covered, covered, free, covers, laid-low, laid-free, laid-own, laid-length, cleared-low, cleared-free, taken-other, taken-own, put-nesting, put-clear, turned-length, turned-nesting, turned-clear, turned-low, in-alike}
+use Rattle.machine.proofs.Ring.{ring-past, ring-lt, ring-apart, Covered, covered, free, covers, laid-low, laid-free, laid-own, laid-length, cleared-low, cleared-free, taken-other, taken-own, put-nesting, put-held, turned-nesting, turned-low, turned-held, in-alike}
 
 -- ---------------------------------------------------------------- places
 -- a register from 8 on stands in the ring
@@ -86,17 +85,8 @@ module _ (rs : List ℕ) (h : Held rs) (rd t : ℕ) where
   abbrev put : List ℕ
   put = putRegister rs rd t
 
-  put-held : Held put
-  put-held =
-      record {
-        whole = put-length rs rd t ∙ h .whole;
-        zero = put-zero rs rd t;
-        clear = put-clear rs rd t (h .clear);
-        nesting = rw (put-nesting rs rd t) (h .nesting);
-      }
-
   own-place : (k : ℕ) → k < 24 → getD (laid put) (ringPlace w k) 0 ≡ getD put (8 + k) 0
-  own-place k g = rw (put-nesting rs rd t) at (laid-own put (put-held .whole) k g)
+  own-place k g = rw (put-nesting rs rd t) at (laid-own put (put-held rs h rd t .whole) k g)
 
   put-written : (rd % 32 ≡ 0 → ⊥) → inWindow put w (rd % 32) ≡ t
   put-written n =
@@ -125,15 +115,6 @@ module _ (rs : List ℕ) (h : Held rs) (rd t : ℕ) where
 
 -- ---------------------------------------------------------------- another window becomes the current one
 module _ (rs : List ℕ) (h : Held rs) (v : ℕ) (few : v ≤ 6) where
-  turned-held : Held (turned v rs)
-  turned-held =
-      record {
-        whole = turned-length v rs ∙ h .whole;
-        zero = turned-low v rs 0 (inl (omega arith)) ∙ h .zero;
-        clear = turned-clear v rs (h .whole);
-        nesting = rw (turned-nesting v rs (h .whole)) few;
-      }
-
   -- what it has in registers 8 to 31 and elsewhere, from what was shown
   up-at : (k : ℕ) → k < 24 → getD (turned v rs) (8 + k) 0 ≡ getD (laid rs) (ringPlace v k) 0
   unfolding turned
@@ -156,21 +137,21 @@ module _ (rs : List ℕ) (h : Held rs) (v : ℕ) (few : v ≤ 6) where
       n = turned-nesting v rs (h .whole)
 
       go : Covered v p → getD (laid (turned v rs)) p 0 ≡ getD (laid rs) p 0
-      go (covered k g e) = rw e (rw n at (laid-own (turned v rs) (turned-held .whole) k g) ∙ up-at k g)
+      go (covered k g e) = rw e (rw n at (laid-own (turned v rs) (turned-held rs h v few .whole) k g) ∙ up-at k g)
       go (free f) = laid-free (turned v rs) p (rw n f) ∙ stays-at p (l .0) f
 
   y-stays : (rd t : ℕ) → yOf (putRegister (turned v rs) rd t) ≡ yOf rs
   unfolding yOf
-  y-stays rd t = put-other (turned v rs) rd t 32 (turned-held .zero) (inr (λ e. omega arith)) ∙ turned-low v rs 32 (inr refl)
+  y-stays rd t = put-other (turned v rs) rd t 32 (turned-held rs h v few .zero) (inr (λ e. omega arith)) ∙ turned-low v rs 32 (inr refl)
 
   turned-so : (rd t : ℕ) → Turned v rd t rs (putRegister (turned v rs) rd t)
   turned-so rd t =
       let n : nestingOf (turned v rs) ≡ v = turned-nesting v rs (h .whole) in
       record {
-        held = put-held (turned v rs) turned-held rd t;
+        held = put-held (turned v rs) (turned-held rs h v few) rd t;
         nesting = put-nesting (turned v rs) rd t ∙ n;
-        written = rw n at (put-written (turned v rs) turned-held rd t);
-        others = λ p l f. put-others (turned v rs) turned-held rd t p l (rw n f) ∙ turned-shows p l;
+        written = rw n at (put-written (turned v rs) (turned-held rs h v few) rd t);
+        others = λ p l f. put-others (turned v rs) (turned-held rs h v few) rd t p l (rw n f) ∙ turned-shows p l;
         same-y = y-stays rd t;
       }
 
