@@ -1,4 +1,4 @@
-/* Measures the library's side of a core against the rival's, on four loops. */
+/* Measures the library's side of a core against the rival's, on five loops. */
 #include "bench.h"
 
 #include <stdio.h>

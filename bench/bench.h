@@ -25,14 +25,14 @@ enum { STATE_LIMIT = PIJORREL_OLD_STATE };
 
 extern const struct core {
     const char *name;
-    size_t state_length; /* its last three numbers are the end, what belongs to it, and Y */
-    uint32_t mark;       /* of a case in a vectors file */
+    size_t state_length, end_at; /* the end stands there, what belongs to it and Y behind it, then the windows */
+    uint32_t mark;               /* of a case in a vectors file */
 } core;
 
 /* The end's number in a state, and what belongs to it right after. */
 static inline const uint8_t *end_in(const uint8_t *state)
 {
-    return state + core.state_length - 12;
+    return state + core.end_at;
 }
 
 run_function library_run, rival_run;

@@ -3,7 +3,9 @@
 #include "new_core.h"
 #include "translations.h"
 
-const struct core core = { .name = "new core", .state_length = PIJORREL_NEW_STATE, .mark = 0x4E455743 };
+const struct core core = {
+    .name = "new core", .state_length = PIJORREL_NEW_STATE, .end_at = 140, .mark = 0x4E455743
+};
 
 /* In the order of the loops. */
 static const struct translation {
@@ -13,7 +15,8 @@ static const struct translation {
     { arithmetic_places, arithmetic_records, sizeof arithmetic_places, sizeof arithmetic_records },
     { memory_places, memory_records, sizeof memory_places, sizeof memory_records },
     { mixed_places, mixed_records, sizeof mixed_places, sizeof mixed_records },
-    { products_places, products_records, sizeof products_places, sizeof products_records }
+    { products_places, products_records, sizeof products_places, sizeof products_records },
+    { calls_places, calls_records, sizeof calls_places, sizeof calls_records }
 };
 
 struct pijorrel_end library_run(const struct program *p, uint8_t *state, uint8_t *data, size_t data_length,
@@ -27,12 +30,15 @@ struct pijorrel_end library_run(const struct program *p, uint8_t *state, uint8_t
 struct pijorrel_end rival_run(const struct program *p, uint8_t *state, uint8_t *data, size_t data_length,
                               uint16_t count)
 {
+    uint32_t windows[WINDOWS][WINDOW];
     struct rival_new_state s = {
-        .m = machine_from(state, state + 140), .record = word_at(state + 132), .held = word_at(state + 136)
+        .m = machine_from(state, end_in(state), windows),
+        .record = word_at(state + 132),
+        .held = word_at(state + 136)
     };
     rival_new_run(p->records, p->records_length, p->places, p->places_length, p->base,
                   (uint32_t)p->image_length, p->data_base, &s, data, data_length, count);
-    machine_to(&s.m, state, state + 140);
+    machine_to(&s.m, windows, state, state + core.end_at);
     put_word(state + 132, s.record);
     put_word(state + 136, s.held);
     return s.m.end;

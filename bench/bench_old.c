@@ -2,7 +2,9 @@
 #include "bench.h"
 #include "old_core.h"
 
-const struct core core = { .name = "old core", .state_length = PIJORREL_OLD_STATE, .mark = 0x4F4C4443 };
+const struct core core = {
+    .name = "old core", .state_length = PIJORREL_OLD_STATE, .end_at = 144, .mark = 0x4F4C4443
+};
 
 struct pijorrel_end library_run(const struct program *p, uint8_t *state, uint8_t *data, size_t data_length,
                                 uint16_t count)
@@ -14,14 +16,15 @@ struct pijorrel_end library_run(const struct program *p, uint8_t *state, uint8_t
 struct pijorrel_end rival_run(const struct program *p, uint8_t *state, uint8_t *data, size_t data_length,
                               uint16_t count)
 {
+    uint32_t windows[WINDOWS][WINDOW];
     struct rival_old_state s = {
-        .m = machine_from(state, state + 144),
+        .m = machine_from(state, end_in(state), windows),
         .pc = word_at(state + 132),
         .npc = word_at(state + 136),
         .annul = word_at(state + 140) != 0
     };
     rival_old_run(p->image, p->image_length, p->base, p->data_base, &s, data, data_length, count);
-    machine_to(&s.m, state, state + 144);
+    machine_to(&s.m, windows, state, state + core.end_at);
     put_word(state + 132, s.pc);
     put_word(state + 136, s.npc);
     put_word(state + 140, s.annul);

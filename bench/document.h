@@ -9,7 +9,9 @@ enum end {
     END_MISALIGNED = 4,
     END_UNFIT = 5,
     END_NO_PLACE = 6,
-    END_BAD_RECORD = 7
+    END_BAD_RECORD = 7,
+    END_SAVES = 8,
+    END_RESTORES = 9
 };
 
 enum place_kind { PLACE_PLAIN = 0, PLACE_SLOT = 1, PLACE_HELD = 2 };

@@ -61,6 +61,40 @@ static inline bool holds(const struct machine *m, uint32_t condition)
     return conditions[condition] >> m->flags & 1;
 }
 
+/* ---- windows */
+
+/* Goes to a window beside the current one: the globals go along, and the numbers that both have, outs in one and ins in
+ * the other. */
+static inline void go_to(struct machine *m, uint32_t *window, int from, int to)
+{
+    memcpy(window, m->registers, 8 * sizeof *window);
+    memcpy(window + to, m->registers + from, 8 * sizeof *window);
+    m->registers = window;
+}
+
+/* False after ending the run, where there is no window to go to. */
+static inline bool save(struct machine *m)
+{
+    if (m->nesting == MOST_NESTING) {
+        stop(m, END_SAVES, m->nesting);
+        return false;
+    }
+    m->nesting++;
+    go_to(m, m->registers + WINDOW, OUTS, INS);
+    return true;
+}
+
+static inline bool restore(struct machine *m)
+{
+    if (m->nesting == 0) {
+        stop(m, END_RESTORES, m->nesting);
+        return false;
+    }
+    m->nesting--;
+    go_to(m, m->registers - WINDOW, INS, OUTS);
+    return true;
+}
+
 /* ---- arithmetic: each gives its result and, in the flag forms, sets the flags */
 
 static inline uint32_t flags_of(uint32_t result, uint32_t overflow, uint32_t carry)
@@ -163,6 +197,8 @@ static inline enum outcome arithmetic(struct machine *m, uint32_t word)
     case OP3_SLL: if (word & UNUSED_ABOVE_5) return ILLEGAL; result = a << (b & 31); break;
     case OP3_SRL: if (word & UNUSED_ABOVE_5) return ILLEGAL; result = a >> (b & 31); break;
     case OP3_SRA: if (word & UNUSED_ABOVE_5) return ILLEGAL; result = shifted_signed(a, b & 31); break;
+    case OP3_SAVE: if (!save(m)) return DONE; result = a + b; break;
+    case OP3_RESTORE: if (!restore(m)) return DONE; result = a + b; break;
     case OP3_JMPL: return JMPL;
     case OP3_TICC: if (word & UNUSED_TICC) return ILLEGAL; trap(m, word, a + b); return DONE;
     default: return ILLEGAL;

@@ -1,4 +1,4 @@
-/* The four loops that the cores' benchmarks run: the old core the words, the new core their translations. After an
+/* The five loops that the cores' benchmarks run: the old core the words, the new core their translations. After an
  * edit, bench/translate makes the translations again, and the programs in whole.c may take other numbers. */
 #include "loops.h"
 
@@ -115,6 +115,44 @@ static struct loop products_loop(void)
     return LOOP_OF("products", words, 20);
 }
 
+/* Calls as a compiler makes them: a function with a window of its own calls another one, at nesting 2, and a leaf.
+ * Of the 28 steps of a turn four, one in seven, are a save or a restore. */
+static struct loop calls_loop(void)
+{
+    const uint32_t words[] = {
+        sethi(18, DATA_BASE),                    /*  0       sethi   l2 */
+        compute_constant(OP3_ADD, 16, 16, 4),    /*  1 loop: add     l0, 4, l0 */
+        compute_constant(OP3_AND, 9, 16, 0xFFC), /*  2       and     l0, 0xffc, o1 */
+        compute(OP3_OR, 8, 0, 18),               /*  3       or      g0, l2, o0 */
+        call(5),                                 /*  4       call    f */
+        compute(OP3_OR, 10, 0, 17),              /*  5       or      g0, l1, o2 */
+        compute(OP3_XOR, 17, 17, 8),             /*  6       xor     l1, o0, l1 */
+        branch(COND_ALWAYS, false, -6),          /*  7       ba      loop */
+        compute(OP3_ADD, 19, 19, 17),            /*  8       add     l3, l1, l3 */
+        compute_constant(OP3_SAVE, 14, 14, -96), /*  9 f:    save    sp, -96, sp */
+        access(OP3_LD, 16, 24, 25),              /* 10       ld      [i0 + i1], l0 */
+        compute(OP3_ADD, 8, 16, 26),             /* 11       add     l0, i2, o0 */
+        call(7),                                 /* 12       call    g */
+        compute(OP3_SUB, 9, 26, 25),             /* 13       sub     i2, i1, o1 */
+        access(OP3_ST, 8, 24, 25),               /* 14       st      o0, [i0 + i1] */
+        call(11),                                /* 15       call    leaf */
+        compute(OP3_XOR, 8, 8, 16),              /* 16       xor     o0, l0, o0 */
+        compute_constant(OP3_JMPL, 0, 31, 8),    /* 17       jmpl    i7 + 8, g0 */
+        compute(OP3_RESTORE, 8, 0, 8),           /* 18       restore g0, o0, o0 */
+        compute_constant(OP3_SAVE, 14, 14, -96), /* 19 g:    save    sp, -96, sp */
+        compute_constant(OP3_SLL, 16, 25, 3),    /* 20       sll     i1, 3, l0 */
+        compute(OP3_SUB | OP3_CC, 24, 24, 16),   /* 21       subcc   i0, l0, i0 */
+        branch(COND_NEG, true, 2),               /* 22       bneg,a  at24 */
+        compute(OP3_XOR, 24, 24, 25),            /* 23       xor     i0, i1, i0 */
+        compute_constant(OP3_JMPL, 0, 31, 8),    /* 24 at24: jmpl    i7 + 8, g0 */
+        compute(OP3_RESTORE, 8, 24, 25),         /* 25       restore i0, i1, o0 */
+        compute_constant(OP3_SRL, 9, 8, 5),      /* 26 leaf: srl     o0, 5, o1 */
+        compute_constant(OP3_JMPL, 0, 15, 8),    /* 27       jmpl    o7 + 8, g0 */
+        compute(OP3_ADD, 8, 8, 9),               /* 28       add     o0, o1, o0 */
+    };
+    return LOOP_OF("calls", words, 7);
+}
+
 static struct loop empty_loop(void)
 {
     const uint32_t words[] = {
@@ -131,6 +169,7 @@ struct loop loop_at(int number)
     case 1: return memory_loop();
     case 2: return mixed_loop();
     case 3: return products_loop();
+    case 4: return calls_loop();
     default: return empty_loop();
     }
 }

@@ -6,7 +6,7 @@
 #include <stdint.h>
 
 enum {
-    LOOPS = 4,
+    LOOPS = 5,
     LOOP_WORDS = 32,
     LOOP_BASE = 0x1000, /* of the image; each loop is begun there */
     DATA_BASE = 0x40000000,
@@ -20,7 +20,8 @@ struct loop {
     size_t closing; /* the position of the ba that goes back to begin another turn */
 };
 
-/* 0 arithmetic, 1 memory, 2 mixed, 3 products; and 4, LOOPS itself, an empty one that no core is measured on */
+/* 0 arithmetic, 1 memory, 2 mixed, 3 products, 4 calls; and 5, LOOPS itself, an empty one that no core is measured
+ * on */
 struct loop loop_at(int number);
 
 /* What every run finds as its data. */

@@ -109,7 +109,8 @@ static inline void step(struct rival_new_state *s, const struct program *p, cons
     }
 }
 
-/* The state is worked on as a local copy, which no store to the data can change behind the compiler's back. */
+/* The state is worked on as a local copy, which no store to the data can change behind the compiler's back; the
+ * registers, which are loaded at each use, stay in the caller's array. */
 struct pijorrel_end rival_new_run(const uint8_t *records, size_t records_length, const uint8_t *places,
                                   size_t places_length, uint32_t base, uint32_t image_length, uint32_t data_base,
                                   struct rival_new_state *state, uint8_t *data, size_t data_length,

@@ -63,7 +63,8 @@ static inline void step(struct rival_old_state *s, const uint8_t *image, size_t 
     }
 }
 
-/* The state is worked on as a local copy, which no store to the data can change behind the compiler's back. */
+/* The state is worked on as a local copy, which no store to the data can change behind the compiler's back; the
+ * registers, which are loaded at each use, stay in the caller's array. */
 struct pijorrel_end rival_old_run(const uint8_t *image, size_t image_length, uint32_t base,
                                   uint32_t data_base, struct rival_old_state *state,
                                   uint8_t *data, size_t data_length, uint16_t count)

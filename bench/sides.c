@@ -14,7 +14,8 @@ struct outcome run_old(struct whole *w, uint16_t count)
 
 struct outcome run_rival(struct whole *w, uint16_t count)
 {
-    struct rival_old_state state = { .pc = LOOP_BASE, .npc = LOOP_BASE + 4 };
+    uint32_t windows[WINDOWS][WINDOW] = { { 0 } };
+    struct rival_old_state state = { .m = { .registers = windows[0] }, .pc = LOOP_BASE, .npc = LOOP_BASE + 4 };
     struct outcome o = { { 0, 0 }, 0 };
     for (; o.end.end == 0; o.calls++)
         o.end = rival_old_run(w->image, w->length, LOOP_BASE, DATA_BASE, &state, w->data, WHOLE_DATA, count);

@@ -63,6 +63,7 @@ static inline enum class arithmetic_class(uint32_t word)
     case OP3_SUBX: case OP3_SUBX | OP3_CC:
     case OP3_UMUL: case OP3_UMUL | OP3_CC:
     case OP3_SMUL: case OP3_SMUL | OP3_CC:
+    case OP3_SAVE: case OP3_RESTORE:
         return OTHER;
     case OP3_SLL: case OP3_SRL: case OP3_SRA: return word & UNUSED_ABOVE_5 ? ILLEGAL : OTHER;
     case OP3_RDY: return word & UNUSED_RDY ? ILLEGAL : OTHER;

@@ -27,7 +27,9 @@ enum v8_arithmetic {
     OP3_RDY = 0x28,
     OP3_WRY = 0x30,
     OP3_JMPL = 0x38,
-    OP3_TICC = 0x3A
+    OP3_TICC = 0x3A,
+    OP3_SAVE = 0x3C,
+    OP3_RESTORE = 0x3D
 };
 
 /* op3 of format 3. */

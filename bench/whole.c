@@ -9,7 +9,7 @@
 
 /* ---- the words */
 
-enum { STACK = 14, COUNTER = 24, RESULTS = 25 }; /* registers; no loop uses the last two */
+enum { STACK = 14, COUNTER = 24, RESULTS = 25 }; /* registers; no loop uses the last two in the first window */
 
 enum { SYSTEM_TRAP = 0x10, CALL_EXIT = 1, CALL_WRITE = 4, STANDARD_OUTPUT = 1 };
 
@@ -67,14 +67,23 @@ static void add_end(struct whole *w)
     add(w, compute_constant(OP3_TICC, COND_ALWAYS, 0, SYSTEM_TRAP));
 }
 
+/* QEMU takes the first window's ins and locals to be on the stack and loads them at the first restore to it. That comes
+ * here, where register 14 still has the stack's address and 0 lies there; then it is 0 as on the cores. */
+static void settle(struct whole *w)
+{
+    add(w, compute(OP3_SAVE, 0, 0, 0));
+    add(w, compute(OP3_RESTORE, 0, 0, 0));
+    set(w, STACK, 0);
+}
+
 struct whole whole_at(int number)
 {
     /* As many turns as fit into the steps, and for those left over words that do nothing. */
-    static const int turns[WHOLE_PROGRAMS] = { 642, 4093, 3194, 3118, 1 };
-    static const int left[WHOLE_PROGRAMS] = { 10, 5, 16, 12, 0 };
+    static const int turns[WHOLE_PROGRAMS] = { 642, 4093, 3194, 3118, 2112, 1 };
+    static const int left[WHOLE_PROGRAMS] = { 8, 3, 14, 10, 19, 0 };
     struct loop loop = loop_at(number);
     struct whole w = { .name = loop.name };
-    set(&w, STACK, 0); /* QEMU hands over an address there */
+    settle(&w);
     add_loop(&w, &loop, turns[number]);
     idle(&w, left[number]);
     add_results(&w);

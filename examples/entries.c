@@ -1,8 +1,21 @@
 #include "entries.h"
 
+#include <string.h>
+
 #include "shared.h"
 
 enum { PC = 33, ANNUL = 35, OLD_END = 36, OLD_Y = 38, RECORD_NUMBER = 33, HELD = 34, NEW_END = 35, NEW_Y = 37 };
+
+/* Y, nesting and windows of the state, as an entry shows them. */
+static void show_windows(struct walk *walk, size_t y)
+{
+    memcpy(walk->windows, walk->state + 4 * y, Y_AND_WINDOWS);
+}
+
+static void put_windows(struct walk *walk, size_t y)
+{
+    memcpy(walk->state + 4 * y, walk->windows, Y_AND_WINDOWS);
+}
 
 bool has_plain_place(const struct program *program, uint32_t address)
 {
@@ -40,7 +53,7 @@ static bool close_if_ended(struct walk *walk, size_t end)
 static bool found_old(struct walk *walk)
 {
     walk->address = number_at(walk->state, PC);
-    walk->y = number_at(walk->state, OLD_Y);
+    show_windows(walk, OLD_Y);
     return close_if_ended(walk, OLD_END) || number_at(walk->state, ANNUL) == 0;
 }
 
@@ -83,7 +96,7 @@ static bool step_new(struct walk *walk)
     bool by_held = at_kind_6(walk);
     pijorrel_new_run(p->records, 12 * p->record_count, p->places, 16 * p->place_count, p->base,
                      (uint32_t)p->image_length, walk->data_base, walk->state, walk->data, walk->data_length, 1);
-    walk->y = number_at(walk->state, NEW_Y);
+    show_windows(walk, NEW_Y);
     walk->steps++;
     return (by_held && landed_at(walk, number_at(walk->state, HELD))) || found_new(walk);
 }
@@ -99,7 +112,7 @@ static void open_walk(struct walk *walk, bool on_new_core)
 void begin_old(struct walk *walk, uint32_t address)
 {
     open_walk(walk, false);
-    put_number(walk->state, OLD_Y, walk->y);
+    put_windows(walk, OLD_Y);
     pijorrel_old_begin(address, walk->state);
     found_old(walk);
 }
@@ -108,9 +121,9 @@ void begin_new(struct walk *walk, uint32_t address)
 {
     const struct program *p = walk->program;
     open_walk(walk, true);
-    put_number(walk->state, NEW_Y, walk->y);
+    put_windows(walk, NEW_Y);
     pijorrel_new_begin(p->places, 16 * p->place_count, p->base, (uint32_t)p->image_length, address, walk->state);
-    walk->y = number_at(walk->state, NEW_Y);
+    show_windows(walk, NEW_Y);
     if (!landed_at(walk, address))
         found_new(walk);
 }

@@ -9,6 +9,7 @@
 
 enum {
     REGISTERS_AND_FLAGS = 132, /* the first bytes of both states */
+    Y_AND_WINDOWS = 520,       /* the last ones: Y, the nesting and the windows */
     MOST_STEPS = 2             /* from an entry to the next, or to the end */
 };
 
@@ -20,13 +21,13 @@ struct program {
 };
 
 /* One core's run. The caller sets the first five and the registers and flags in the state, then begins. After that
- * the run is at an entry (its address and Y here, registers, flags and data where they are) or closed. */
+ * the run is at an entry (its address, Y and windows here, registers, flags and data where they are) or closed. */
 struct walk {
     const struct program *program;
     uint32_t data_base;
     uint8_t *data;
     size_t data_length;
-    uint32_t y;                        /* in the state too, where each core has its own place for it */
+    uint8_t windows[Y_AND_WINDOWS];    /* in the state too, where each core has its own place for them */
     uint8_t state[PIJORREL_OLD_STATE]; /* of either core */
     bool on_new_core;
     bool closed;

@@ -11,7 +11,7 @@
  *   -n MOST      stop after so many records, or with -c entries (1,000,000)
  *   -c           run both cores side by side instead, and compare them at every entry
  *
- * Numbers are decimal, or hexadecimal after 0x. Registers and Y begin as 0, flags clear. It leaves with
+ * Numbers are decimal, or hexadecimal after 0x. Registers, windows and Y begin as 0, flags clear. It leaves with
  *   0  the run has ended; with -c: no difference
  *   1  the translation is refused
  *   2  the command line is wrong, a file cannot be read, or with -c there is no place at START
@@ -32,7 +32,7 @@ enum {
     IMAGE_ROOM = 1 << 20,                       /* more than is accepted, so that the refusal can name the length */
     DATA_ROOM = 65536,
     ENTRIES_ROOM = 4 * 1024,
-    FLAGS = 32, Y = 37                          /* numbers of the new core's state */
+    FLAGS = 32, Y = 37, NESTING = 38            /* numbers of the new core's state */
 };
 
 /* What the command line says. */
@@ -145,11 +145,11 @@ static void print_refusal(const struct pijorrel_answer *answer)
 static void print_end(uint32_t end, uint32_t number)
 {
     static const char *const beside[] = { "", "trap number", "address", "address", "address", "address", "address",
-                                          "record" };
-    printf("ended (%" PRIu32 "): %s, %s %" PRIu32 "\n", end, words_of_end(end), beside[end < 8 ? end : 0], number);
+                                          "record", "nesting", "nesting" };
+    printf("ended (%" PRIu32 "): %s, %s %" PRIu32 "\n", end, words_of_end(end), beside[end < 10 ? end : 0], number);
 }
 
-/* The flags, and every register and Y that is not 0. */
+/* The flags, and every register of the current window, Y and the nesting where they are not 0. */
 static void print_machine(const uint8_t *state)
 {
     static const char *const names[] = { "N", "Z", "V", "C" };
@@ -162,6 +162,8 @@ static void print_machine(const uint8_t *state)
             printf("r%zu = %" PRIu32 "\n", i, number_at(state, i));
     if (number_at(state, Y) != 0)
         printf("Y = %" PRIu32 "\n", number_at(state, Y));
+    if (number_at(state, NESTING) != 0)
+        printf("nesting = %" PRIu32 "\n", number_at(state, NESTING));
 }
 
 /* Runs in pieces of at most 65,535 records, since a count has 16 bits. */
@@ -195,8 +197,10 @@ static const char *difference(const struct walk *old, const struct walk *new)
         return old->end == new->end && old->number == new->number ? NULL : "the ends";
     if (old->address != new->address)
         return "the addresses";
-    if (memcmp(old->state, new->state, REGISTERS_AND_FLAGS) != 0 || old->y != new->y)
-        return "registers, Y or flags";
+    if (memcmp(old->state, new->state, REGISTERS_AND_FLAGS) != 0)
+        return "registers or flags";
+    if (memcmp(old->windows, new->windows, Y_AND_WINDOWS) != 0)
+        return "Y, nesting or windows";
     if (old->data_length > 0 && memcmp(old->data, new->data, old->data_length) != 0)
         return "the data";
     return NULL;

@@ -41,8 +41,9 @@ static inline size_t load(const char *path, uint8_t *bytes, size_t most)
 static inline const char *words_of_end(uint32_t end)
 {
     static const char *const ends[] = { "still going", "trap taken", "outside the image", "illegal word", "misaligned",
-                                        "data access that does not fit", "no place", "bad record" };
-    return end < 8 ? ends[end] : "no end";
+                                        "data access that does not fit", "no place", "bad record", "too many saves",
+                                        "too many restores" };
+    return end < 10 ? ends[end] : "no end";
 }
 
 #endif

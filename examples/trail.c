@@ -6,9 +6,9 @@
 
 #include "shared.h"
 
-enum { MOST = 16384, MOST_STEPS = 200, FLAGS = 32, PC = 33, ANNUL = 35, Y = 38 };
+enum { MOST = 16384, MOST_STEPS = 200, FLAGS = 32, PC = 33, ANNUL = 35, Y = 38, NESTING = 39 };
 
-/* The address and its word, the flags, and every register and Y that is not 0. */
+/* The address and its word, the flags, and every register of the current window, Y and the nesting that is not 0. */
 static void show(const uint8_t *state, const uint8_t *image, size_t length, uint32_t base)
 {
     uint32_t pc = number_at(state, PC), offset = pc - base, flags = number_at(state, FLAGS);
@@ -23,6 +23,8 @@ static void show(const uint8_t *state, const uint8_t *image, size_t length, uint
             printf("  r%u=%u", (unsigned)i, (unsigned)number_at(state, i));
     if (number_at(state, Y) != 0)
         printf("  Y=%u", (unsigned)number_at(state, Y));
+    if (number_at(state, NESTING) != 0)
+        printf("  nesting=%u", (unsigned)number_at(state, NESTING));
     printf("\n");
 }
 

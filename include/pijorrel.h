@@ -40,24 +40,36 @@ extern "C" {
  *   6  no place, new core only: an address in the image without a plain place (the address)
  *   7  bad record, new core only (the record number): one past the last, of a kind other than 1 to 7, a word that its
  *      kind cannot have, a condition above 15, a kind 7 that ends with other than 2 or 3
+ *   8  too many saves: a save at nesting 6 (the nesting)
+ *   9  too many restores: a restore at nesting 0 (the nesting)
  * The step that ends a run changes nothing but end and number; a run that has ended stays as it is. */
 struct pijorrel_end {
     uint32_t end;
     uint32_t number;
 };
 
-/* ---- the old core ----
+/* ---- register windows ----
  *
- * Its state: 39 numbers.
+ * Eight windows, numbered by nesting: window 0 is the first, a save goes one up and a restore one down, and 7 is never
+ * the current one. A state has the nesting and 128 numbers of windows, eight blocks of 16: block w has window w's ins
+ * (registers 24 to 31), then its locals (registers 16 to 23). Window w's outs (registers 8 to 15) are the ins of window
+ * w + 1, and window 7's those of window 0. Registers 0 to 31 of a state are those of the current window; its ins,
+ * locals and outs stand among the 128 too. Lent, registers 8 to 31 count, and the 24 numbers that repeat them are not
+ * looked at; left, they are equal. A nesting above 6 counts as 6.
+ *
+ * ---- the old core ----
+ *
+ * Its state: 168 numbers.
  *   0 to 31  registers (register 0 counts as 0)       35  annul (any number but 0 is set)
  *   32       flags, 8N + 4Z + 2V + C (low four bits)  36  end, 37 the number beside it
  *   33       PC                                       38  Y
- *   34       nPC
- * Any bytes are a state; an end outside 1 to 7 counts as still going. All bytes 0 are the start values. Every call
- * leaves it in normal form: register 0 as 0, flags below 16, annul 0 or 1, end 0 to 7, and number 0 beside end 0. */
-#define PIJORREL_OLD_STATE 156
+ *   34       nPC                                      39  nesting, 40 to 167 the windows
+ * Any bytes are a state; an end outside 1 to 9 counts as still going. All bytes 0 are the start values. Every call
+ * leaves it in normal form: register 0 as 0, flags below 16, annul 0 or 1, end 0 to 9, number 0 beside end 0, nesting
+ * 0 to 6, and the current window among the windows. */
+#define PIJORREL_OLD_STATE 672
 
-/* Sets PC to the address, nPC 4 further, annul clear, not ended; keeps registers, Y and flags. */
+/* Sets PC to the address, nPC 4 further, annul clear, not ended; keeps registers, flags, Y, nesting and windows. */
 void pijorrel_old_begin(uint32_t address, uint8_t state[PIJORREL_OLD_STATE]);
 
 /* Passes count words, annulled ones counted, or fewer where the run ends; answers how it stands, as the state does.
@@ -133,15 +145,15 @@ struct pijorrel_answer pijorrel_translate(const uint8_t *image, size_t image_len
 
 /* ---- the new core ----
  *
- * Its state: 38 numbers.
+ * Its state: 167 numbers.
  *   0 to 31  registers     33  record number     35  end, 36 the number beside it
- *   32       flags         34  held address      37  Y
+ *   32       flags         34  held address      37  Y, 38 nesting, 39 to 166 the windows
  * They are read and left as the old core's are. All bytes 0 are the start values. */
-#define PIJORREL_NEW_STATE 152
+#define PIJORREL_NEW_STATE 668
 
-/* Begins at the first record of the address's lowest-numbered plain place, with held address 0; keeps registers, Y and
- * flags. With no such place the run ends at once: 2 outside the image, 6 inside, record number 0. Answers how the run
- * stands, as the state does.
+/* Begins at the first record of the address's lowest-numbered plain place, with held address 0; keeps registers, flags,
+ * Y, nesting and windows. With no such place the run ends at once: 2 outside the image, 6 inside, record number 0.
+ * Answers how the run stands, as the state does.
  *   places, places_length        the table
  *   base, image_length           those of the image translated; the image itself is not needed */
 struct pijorrel_end pijorrel_new_begin(const uint8_t *places, size_t places_length, uint32_t base,
@@ -175,7 +187,10 @@ struct pijorrel_end pijorrel_new_run(const uint8_t *records, size_t records_leng
  * go to Y, the low ones to rd, and the last two set N and Z from the low ones and clear V and C. rdy, form 168, copies
  * Y to rd and has no other number; a word with its op3 and any of bits 18 to 0 set is not known. wry, form 176, writes
  * rs1 xor the second operand to Y, where the next word finds it; it has no rd, and with any of bits 29 to 25 set it is
- * not known. */
+ * not known.
+ *
+ * Windows. save and restore, forms 188 and 189, add rs1 and the second operand as the old window has them and write the
+ * sum to rd of the new one; they set no flags. */
 #define PIJORREL_INSTRUCTION 24
 
 /* 0 and the word; or 7 and the bits of the field that a number does not fit, of several the highest in the word, and 0

@@ -7,7 +7,8 @@ EXECUTED = ("bcc", "bcc,a", "ba", "bn", "call", "jmpl")  # first words whose del
 ANNULLED = ("bcc,a", "ba,a", "bn,a")  # and those whose delay slot can be annulled
 REPEATED = ("place", "record", "old", "new", "malformed")
 TRAILS = ("old", "new", "malformed")
-Y = 33  # of an entry's numbers: the address, 32 registers, Y, the flags, the data
+# Of an entry's numbers: the address, 32 registers, Y, the nesting, 128 of windows, the flags, the data.
+Y, NESTING, FLAGS = 33, 34, 163
 
 
 class Case:
@@ -93,9 +94,9 @@ def past_the_last(case):
     return end == 7 and record >= len(case.malformed_records) // 12 and record in named
 
 
-def changes_y(case, name):
-    """Whether Y is not the same at all entries of a trail."""
-    return len({entry[Y] for entry in case.lines[name]}) > 1
+def changes(case, name, position):
+    """Whether a number is not the same at all entries of a trail."""
+    return len({entry[position] for entry in case.lines[name]}) > 1
 
 
 class Census:
@@ -120,12 +121,17 @@ class Census:
         if not self.closed("new")[6]:
             yield "end 6"
         for name in ("old", "new"):
-            if not any(changes_y(case, name) for case in self.cases):
-                yield f"another Y on the way of the {name} core"
+            for what, position in (("Y", Y), ("nesting", NESTING)):
+                if not any(changes(case, name, position) for case in self.cases):
+                    yield f"another {what} on the way of the {name} core"
+            for end in (8, 9):
+                if not self.closed(name)[end]:
+                    yield f"end {end} of the {name} core"
 
     def show(self):
         entries = {name: sum(len(case.lines[name]) for case in self.cases) for name in TRAILS}
-        changing = {name: sum(changes_y(case, name) for case in self.cases) for name in TRAILS}
+        changing = {(name, position): sum(changes(case, name, position) for case in self.cases)
+                    for name in TRAILS for position in (Y, NESTING)}
         accepted = sum(case.accepted for case in self.cases)
         wrapping = sum(case.accepted for case in self.wrapping)
         print(f"images at bases that wrap: {len(self.wrapping)}, accepted {wrapping}")
@@ -134,8 +140,8 @@ class Census:
               f" records: {sum(len(case.record) for case in self.cases)}")
         for name, text in (("old", "old trails"), ("new", "new trails"), ("malformed", "trails over malformed tables")):
             closed = self.closed(name)
-            print(f"{text}: {closed.total()}, with another Y on the way {changing[name]},"
-                  f" entries {entries[name]}; by end: {tally(closed)}")
+            print(f"{text}: {closed.total()}, with another Y on the way {changing[name, Y]},"
+                  f" another nesting {changing[name, NESTING]}, entries {entries[name]}; by end: {tally(closed)}")
         print(f"entries at a record past the last: {sum(past_the_last(case) for case in self.malformed)}")
         self.show_pairings("executed", EXECUTED, False)
         self.show_pairings("annulled", ANNULLED, True)

@@ -2,6 +2,8 @@
 import re
 from collections import namedtuple
 
+from cases import FLAGS
+
 Equation = namedtuple("Equation", "name left right")
 
 # Named on an `unfolding` line, `definitions` opens what its own line names: every definition of the crates' specs.
@@ -122,9 +124,9 @@ def over_term(places, records, trail):
 def trail_term(case, name, without_end):
     """A trail's entries, how it closes, the steps between and before them, and what closes it.
 
-    An entry's registers are 33 numbers, Y the last of them.
+    An entry's registers are 162 numbers: behind the 32 stand Y, the nesting and the windows.
     """
-    entries = [f"entry {row[0]} (machine {listed(row[1:34])} {row[34]} {listed(row[35:])})"
+    entries = [f"entry {row[0]} (machine {listed(row[1:FLAGS])} {row[FLAGS]} {listed(row[FLAGS + 1:])})"
                for row in case.lines[name]]
     end, number = case.lines[name + "_close"]
     between = case.lines[name + "_steps"][:-1]
@@ -140,7 +142,8 @@ def abbreviation(name, kind, term):
 def given(case):
     """What the equations of a case have in common."""
     n = case.number
-    start = (f"record {{ address = {case.address[0]}; registers = {listed(case.registers + case.y)};"
+    registers = case.registers + case.y + case.nesting + case.windows
+    start = (f"record {{ address = {case.address[0]}; registers = {listed(registers)};"
              f" flags = {case.flags[0]}; area = {listed(case.data)} }}")
     handed = f"translation image-{n} {case.base[0]} entries-{n} {case.places_length[0]} {case.records_length[0]}"
     yield abbreviation(f"image-{n}", "List ℕ", listed(bytes_of([case.image]) + case.image_tail))

@@ -5,13 +5,16 @@
 #include "../../bench/numbers.h"
 #include "pijorrel.h"
 
-enum { PLACES = 8192, RECORDS = 2 * PLACES, MOST_STEPS = 1 << 20, NO_GROUP = -1, TRAP_TAKEN = 1 };
-enum { PC = 33, ANNUL = 35, OLD_Y = 38, RECORD_NUMBER = 33, NEW_Y = 37, UNPLACED = 6 };
-enum { OP2_BIT = 1 << 22, NOP = 0x01000000 };
+enum { PLACES = 8192, RECORDS = 2 * PLACES, MOST_STEPS = 1 << 20, NO_GROUP = -1 };
+enum { UNPLACED = 6, TOO_MANY_SAVES = 8, MOST_NESTING = 6 };
+enum { PC = 33, ANNUL = 35, OLD_END = 36, OLD_Y = 38, NESTING = 39, RECORD_NUMBER = 33, NEW_END = 35, NEW_Y = 37 };
+enum { BEHIND_END = PIJORREL_OLD_STATE - 4 * OLD_Y }; /* Y, the nesting and the windows, which close both states */
+enum { OP2_BIT = 1 << 22, NOP = 0x01000000, JMPL = 0x38, SAVE = 0x3C, RESTORE = 0x3D };
 
-/* A run of one core; the state has room for either. */
+/* A run of one core; a state has room for either. */
 struct run {
     uint8_t state[PIJORREL_OLD_STATE], data[LONGEST_AREA];
+    uint8_t last[PIJORREL_OLD_STATE]; /* the state at the last entry that was gone on from */
     struct pijorrel_end end;
     unsigned long steps; /* calls */
 };
@@ -91,6 +94,7 @@ static int32_t place_at(const struct run *run)
 
 static void to_next_old(const struct stored *image)
 {
+    memcpy(old.last, old.state, sizeof old.last);
     do
         run_old(image, &old, 1);
     while (old.end.end == 0 && number_in(&old, ANNUL) != 0 && old.steps < MOST_STEPS);
@@ -98,15 +102,26 @@ static void to_next_old(const struct stored *image)
 
 static void to_next_new(const struct stored *image)
 {
+    memcpy(new.last, new.state, sizeof new.last);
     do
         run_new(image, &new, 1);
     while (new.end.end == 0 && place_at(&new) == NO_GROUP && new.steps < MOST_STEPS);
 }
 
+/* Registers, flags, Y, nesting, all windows and the data. */
 static bool same_machine(const struct stored *image)
 {
-    return memcmp(old.state, new.state, REGISTERS_AND_FLAGS) == 0 && number_in(&old, OLD_Y) == number_in(&new, NEW_Y)
+    return memcmp(old.state, new.state, REGISTERS_AND_FLAGS) == 0
+        && memcmp(old.state + 4 * OLD_Y, new.state + 4 * NEW_Y, BEHIND_END) == 0
         && memcmp(old.data, new.data, image->area_length) == 0;
+}
+
+/* Whether the step after the last entry changed nothing but the two numbers of the end. */
+static bool changed_nothing(const struct run *run, int end, size_t length)
+{
+    size_t behind = 4 * (size_t)end + 8;
+    return memcmp(run->state, run->last, 4 * (size_t)end) == 0
+        && memcmp(run->state + behind, run->last + behind, length - behind) == 0;
 }
 
 /* Whether both cores stand at one and the same entry; after too many steps they do not. */
@@ -124,6 +139,7 @@ struct path {
     uint32_t within; /* words of it that are passed */
     uint64_t entries, digest;
     unsigned long products, reads, writes; /* words that multiply, read Y and write it alone */
+    unsigned long saves, restores;
 };
 
 /* Whether an entry is the path's next one. */
@@ -154,9 +170,10 @@ static void mix_entry(struct path *path)
     for (int k = 0; k < REGISTERS_AND_FLAGS / 4; k++)
         mix(path, number_in(&old, k));
     mix(path, number_in(&old, OLD_Y));
+    mix(path, number_in(&old, NESTING));
 }
 
-/* Counts the word that an entry stands at, if it is one with Y. */
+/* Counts the word that an entry stands at, if it is one with Y or a window. */
 static void count_word(const struct stored *image, struct path *path)
 {
     uint32_t at = number_in(&old, PC) - image->base, word, op3;
@@ -167,6 +184,8 @@ static void count_word(const struct stored *image, struct path *path)
     path->products += (op3 & 0x2E) == 0x0A; /* signed or not, with flags or without */
     path->reads += op3 == 0x28;
     path->writes += op3 == 0x30;
+    path->saves += op3 == SAVE;
+    path->restores += op3 == RESTORE;
 }
 
 /* ---- whole runs */
@@ -187,28 +206,42 @@ static const char *differ_on_the_way(const struct stored *image, struct path *pa
     return NULL;
 }
 
+/* Both have met the recorded end, a trap or a save too many, at the last entry, and left all as it was there. */
 static const char *differ_at_end(const struct stored *image)
 {
-    if (old.end.end != TRAP_TAKEN || new.end.end != TRAP_TAKEN)
-        return "no end 1";
-    if (old.end.number != new.end.number)
-        return "the trap's numbers differ";
+    if (old.end.end != image->end || new.end.end != image->end)
+        return "another end";
+    if (old.end.number != new.end.number || (image->end == TOO_MANY_SAVES && old.end.number != MOST_NESTING))
+        return "another number beside the end";
+    if (!changed_nothing(&old, OLD_END, PIJORREL_OLD_STATE) || !changed_nothing(&new, NEW_END, PIJORREL_NEW_STATE))
+        return "the step that ends changes more than the end";
     return same_machine(image) ? NULL : "the cores differ at the end";
+}
+
+/* The area from the image's end on, of which the file leaves out a hole of zeros. */
+static bool same_after(const struct stored *image, const uint8_t *at)
+{
+    size_t length = image->area_length - image->image_length, behind = image->hole + image->hole_length;
+    for (size_t k = image->hole; k < behind; k++)
+        if (at[k] != 0)
+            return false;
+    return memcmp(at, image->after, image->hole) == 0
+        && memcmp(at + behind, image->after_hole, length - behind) == 0;
 }
 
 static const char *differ_from_record(const struct stored *image, const struct path *path)
 {
-    size_t length = image->image_length;
     if (path->entries != image->entry_count || path->run != image->run_count)
         return "another number of entries than QEMU's";
     if (path->digest != image->digest)
-        return "registers, flags or Y on the way are not QEMU's";
+        return "registers, flags, Y or nesting on the way are not QEMU's";
     if (memcmp(old.state, image->last, REGISTERS_AND_FLAGS) != 0)
         return "registers or flags at the end are not QEMU's";
     if (number_in(&old, OLD_Y) != word_at(image->last_y))
         return "Y at the end is not QEMU's";
-    if (memcmp(old.data, image->image, length) != 0
-        || memcmp(old.data + length, image->after, image->area_length - length) != 0)
+    if (number_in(&old, NESTING) != word_at(image->last_nesting))
+        return "the nesting at the end is not QEMU's";
+    if (memcmp(old.data, image->image, image->image_length) != 0 || !same_after(image, old.data + image->image_length))
         return "the data at the end is not QEMU's";
     if (memcmp(old.data + image->results_at, image->results, 4 * image->result_count) != 0)
         return "the results are not the known ones";
@@ -234,11 +267,13 @@ static const char *differ_in_strides(const struct stored *image, uint16_t count)
 
 /* ---- a record spoiled */
 
-/* Whether a run of the path begins with a nop, which stays one with another constant. */
-static bool begins_with_nop(const struct stored *image, size_t run)
+/* Whether a run of the path begins with a nop or another word whose result goes to register 0: a comparison with a
+ * constant one greater may come out alike. */
+static bool begins_idly(const struct stored *image, size_t run)
 {
     size_t at = 4 * (size_t)half_at(image->path + 4 * run);
-    return at + 4 <= image->image_length && word_at(image->image + at) == NOP;
+    uint32_t word = at + 4 <= image->image_length ? word_at(image->image + at) : NOP;
+    return word == NOP || (word >> 30 == 2 && (word >> 19 & 63) != JMPL && (word >> 25 & 31) == 0);
 }
 
 /* A place that is run in the middle of the path. */
@@ -246,7 +281,7 @@ static size_t place_in_middle(const struct stored *image)
 {
     size_t run = image->run_count / 2;
     uint32_t address;
-    while (run + 1 < image->run_count && begins_with_nop(image, run))
+    while (run + 1 < image->run_count && begins_idly(image, run))
         run++;
     address = image->base + 4 * half_at(image->path + 4 * run);
     for (size_t k = 0; k < place_count; k++)
@@ -267,7 +302,7 @@ static void spoil_record(const struct stored *image)
 /* A call, or a jmpl with rd not 0. */
 static bool links(uint32_t word)
 {
-    return word >> 30 == 1 || (word >> 30 == 2 && (word >> 19 & 63) == 0x38 && (word >> 25 & 31) != 0);
+    return word >> 30 == 1 || (word >> 30 == 2 && (word >> 19 & 63) == JMPL && (word >> 25 & 31) != 0);
 }
 
 static bool is_unimp(uint32_t word)
@@ -328,6 +363,8 @@ static void add_counts(const struct path *path, struct counts *counts)
     counts->products += path->products;
     counts->reads += path->reads;
     counts->writes += path->writes;
+    counts->saves += path->saves;
+    counts->restores += path->restores;
 }
 
 const char *check_image(const struct stored *image, bool spoil, struct counts *counts)

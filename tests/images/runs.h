@@ -8,6 +8,7 @@
 struct counts {
     unsigned long places, records, entries, old_steps, new_steps;
     unsigned long products, reads, writes; /* entries at words that multiply, read Y, and write it alone */
+    unsigned long saves, restores;         /* entries at these, done or not */
 };
 
 /* What differs, or NULL. If asked, one bit of a record in the middle of the run is spoiled before it. */

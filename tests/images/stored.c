@@ -5,7 +5,7 @@
 #include "../../bench/numbers.h"
 #include "../stored.h"
 
-enum { MARK = 0x494D4147, NUMBERS = 13, NAME = 16 };
+enum { MARK = 0x494D4147, NUMBERS = 17, NAME = 16 };
 
 const char level_names[LEVELS][3] = { "O0", "O1", "O2", "O3", "Os" };
 
@@ -26,6 +26,10 @@ static void take_numbers(const uint8_t *head, struct stored *image)
     image->run_count = n[10];
     image->entry_count = n[11];
     image->pairs = n[12];
+    image->windows = n[13] != 0;
+    image->end = (uint32_t)n[14];
+    image->hole = n[15];
+    image->hole_length = n[16];
 }
 
 /* Whether what the numbers speak of lies in the area, so that nothing after this needs to ask. */
@@ -35,7 +39,9 @@ static bool sound(const struct stored *image)
     return image->program < MOST_PROGRAMS && image->level < LEVELS && length <= LONGEST_AREA
         && image->image_length > 0 && image->image_length <= length && image->entries_length >= 4
         && image->given_length <= length - image->image_length && image->results_at <= length
-        && 4 * image->result_count <= length - image->results_at && image->entry_count > 0;
+        && 4 * image->result_count <= length - image->results_at && image->entry_count > 0
+        && image->hole <= length - image->image_length
+        && image->hole_length <= length - image->image_length - image->hole;
 }
 
 bool take_image(const uint8_t **at, const uint8_t *end, struct stored *image)
@@ -55,9 +61,11 @@ bool take_image(const uint8_t **at, const uint8_t *end, struct stored *image)
     image->path = take(at, end, 4 * image->run_count);
     image->last = take(at, end, REGISTERS_AND_FLAGS);
     image->last_y = take(at, end, 4);
+    image->last_nesting = take(at, end, 4);
     digest = take(at, end, 8);
-    image->after = take(at, end, image->area_length - image->image_length);
-    if (!image->after)
+    image->after = take(at, end, image->hole);
+    image->after_hole = take(at, end, image->area_length - image->image_length - image->hole - image->hole_length);
+    if (!image->after_hole)
         return false;
     image->digest = (uint64_t)word_at(digest) << 32 | word_at(digest + 4);
     return true;

@@ -10,9 +10,11 @@ enum { REGISTERS_AND_FLAGS = 132, LEVELS = 5, MOST_PROGRAMS = 32, LONGEST_AREA =
 
 struct stored {
     char name[17];
-    uint32_t program, level, base;
-    const uint8_t *image, *entries, *given, *results, *path, *last, *last_y, *after;
+    uint32_t program, level, base, end;
+    bool windows; /* compiled to use them */
+    const uint8_t *image, *entries, *given, *results, *path, *last, *last_y, *last_nesting, *after, *after_hole;
     size_t image_length, entries_length, area_length, given_length, results_at, result_count, run_count, pairs;
+    size_t hole, hole_length; /* zeros between what stands at after and at after_hole */
     uint64_t entry_count, digest;
 };
 

@@ -13,7 +13,7 @@
 
 #include "pijorrel.h"
 
-enum { TRANSLATE, OLD_BEGIN, OLD_RUN, NEW_BEGIN, NEW_RUN, FUNCTIONS, FILL = 0xA5 };
+enum { TRANSLATE, OLD_BEGIN, OLD_RUN, NEW_BEGIN, NEW_RUN, FUNCTIONS, FILL = 0xA5, BEHIND_THE_END = 4 * (2 + 128) };
 
 static const uint32_t marks[FUNCTIONS] = { 0x54524E53, 0x4F4C4442, 0x4F4C4443, 0x4E455742, 0x4E455743 };
 
@@ -21,7 +21,7 @@ static const uint32_t marks[FUNCTIONS] = { 0x54524E53, 0x4F4C4442, 0x4F4C4443, 0
 static size_t guard = 29;
 
 /* What the calls met: the translator's answers, and how runs and begins of the cores stood. */
-static uint32_t answers[7], ends[8];
+static uint32_t answers[7], ends[10];
 
 /* A lent area; kept is a copy of what it held before the call. */
 struct area {
@@ -128,11 +128,11 @@ static bool holds_padded(const struct area *area, const struct area *known)
         && (known->length == 0 || memcmp(area->bytes, known->bytes, known->length) == 0);
 }
 
-/* The end and its number stand in a state before Y, the last one, and an answer is the same two. */
+/* The end and its number stand in a state before Y, the nesting and the windows, and an answer is the same two. */
 static bool ends_so(const struct pijorrel_end *end, const struct area *known)
 {
-    const uint8_t *at = known->bytes + known->length - 12;
-    ends[number_at(at) % 8]++;
+    const uint8_t *at = known->bytes + known->length - BEHIND_THE_END - 8;
+    ends[number_at(at) % 10]++;
     return end->end == number_at(at) && end->number == number_at(at + 4);
 }
 
@@ -245,6 +245,6 @@ int main(int count, char **words)
     for (int i = 0; i < FUNCTIONS; i++)
         printf("%s %" PRIu32 "%s", functions[i].name, made[i], i + 1 < FUNCTIONS ? ", " : ")\n");
     print_list("answers", answers, 7);
-    print_list("ends", ends, 8);
+    print_list("ends", ends, 10);
     return cases == 0 || getchar() != EOF ? 2 : equal != cases;
 }

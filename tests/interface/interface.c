@@ -5,7 +5,8 @@
 #include <stdio.h>
 #include <string.h>
 
-enum { GUARD = 16, FLAGS = 32, PC = 33, NPC = 34, ANNUL = 35, END = 36, NUMBER = 37, OLD_Y = 38, NEW_Y = 37 };
+enum { GUARD = 16, WINDOWS = 8 };
+enum { FLAGS = 32, PC = 33, NPC = 34, ANNUL = 35, END = 36, NUMBER = 37, OLD_Y = 38, NEW_Y = 37 };
 
 static int checks, failures;
 
@@ -100,7 +101,7 @@ static void any_state(void)
     CHECK(number_at(g.state, 0) == 0 && number_at(g.state, 31) == 0xFFFFFFFF);
     CHECK(number_at(g.state, FLAGS) == 15 && number_at(g.state, ANNUL) == 1);
     CHECK(number_at(g.state, END) == 0 && number_at(g.state, NUMBER) == 0);
-    CHECK(number_at(g.state, OLD_Y) == 0xFFFFFFFF);
+    CHECK(number_at(g.state, OLD_Y) == 0xFFFFFFFF && number_at(g.state, OLD_Y + 1) == 6);
     put_number(g.state, END, 7);
     put_number(g.state, NUMBER, 99);
     end = pijorrel_old_run(NULL, 0, 0, 0, g.state, NULL, 0, 5);
@@ -298,6 +299,8 @@ static const struct known_word known_words[] = {
     { { 176, 0, 0, 24, 1, 4095 }, 0x81862FFF },        /* wr %i0, 4095, %y */
     { { 184, 0, 0, 15, 1, 8 }, 0x81C3E008 },           /* jmpl %o7 + 8, %g0 */
     { { 186, 0, 8, 1, 1, 127 }, 0x91D0607F },          /* ta %g1 + 127 */
+    { { 188, 0, 14, 14, 1, 0xFFFFFFA0 }, 0x9DE3BFA0 }, /* save %o6, -96, %o6 */
+    { { 189, 0, 8, 24, 0, 17 }, 0x91EE0011 },          /* restore %i0, %l1, %o0 */
     { { 192, 0, 3, 1, 0, 2 }, 0xC6004002 },            /* ld [%g1 + %g2], %g3 */
     { { 193, 0, 3, 1, 1, 0xFFFFFFFF }, 0xC6087FFF },   /* ldub [%g1 - 1], %g3 */
     { { 194, 0, 9, 8, 0, 0 }, 0xD2120000 },            /* lduh [%o0], %o1 */
@@ -400,12 +403,12 @@ static void each_field(void)
     CHECK(is_word(written(64, 0, 0, 0, 0, 0xE0000000), 0x60000000) && unfit(written(64, 0, 0, 0, 0, 0xDFFFFFFF), 30));
 }
 
-/* The same of products, rdy and wry. */
-static void each_field_with_y(void)
+/* The same of products, save and restore, rdy and wry. */
+static void each_field_added(void)
 {
-    static const uint32_t products[] = { 138, 139, 154, 155 };
-    for (int i = 0; i < 4; i++) {
-        uint32_t form = products[i], bits = 2u << 30 | (form - 128) << 19;
+    static const uint32_t forms[] = { 138, 139, 154, 155, 188, 189 };
+    for (int i = 0; i < 6; i++) {
+        uint32_t form = forms[i], bits = 2u << 30 | (form - 128) << 19;
         CHECK(is_word(written(form, 0, 31, 31, 0, 31), bits | 0x3E07C01F));
         CHECK(is_word(written(form, 0, 31, 31, 1, 4095), bits | 0x3E07EFFF));
         CHECK(is_word(written(form, 0, 0, 0, 1, 0xFFFFF000), bits | 0x3000));
@@ -428,6 +431,7 @@ static void highest_unfit(void)
     CHECK(unfit(written(186, 0, 16, 0, 0, 32), 4) && unfit(written(2, 0, 16, 0, 0, 0x200000), 4));
     CHECK(unfit(written(4, 0, 32, 0, 0, 0x400000), 5));
     CHECK(unfit(written(155, 0, 32, 32, 1, 4096), 5) && unfit(written(176, 32, 32, 32, 1, 4096), 5));
+    CHECK(unfit(written(188, 0, 32, 32, 1, 4096), 5) && unfit(written(189, 0, 0, 32, 1, 4096), 5));
 }
 
 /* Numbers that a form does not have are not looked at; of annul and of the mark any but 0 counts as 1. */
@@ -440,6 +444,7 @@ static void numbers_beside(void)
     CHECK(is_word(written(128, any, 1, 2, 0, 3), 0x82008003));
     CHECK(is_word(written(186, any, 8, 0, 1, 0), 0x91D02000));
     CHECK(is_word(written(138, any, 1, 2, 0, 3), 0x82508003));
+    CHECK(is_word(written(188, any, 0, 0, 0, 0), 0x81E00000) && is_word(written(189, any, 0, 0, any, 0), 0x81E82000));
     CHECK(is_word(written(168, any, 17, any, any, any), 0xA3400000)); /* no rs1 and no second operand */
     CHECK(is_word(written(176, any, any, 24, any, 4095), 0x81862FFF)); /* no rd */
     for (uint32_t one = 1; one != 0; one <<= 1) {
@@ -514,17 +519,18 @@ static void unused_bits_elsewhere(void)
     }
 }
 
-/* Whether no reader knows a word of op3 10, 11, 26, 27, 40 or 48. */
+/* Whether no reader knows a word of op3 10, 11, 26, 27, 40, 48, 60 or 61. */
 static int is_illegal(uint32_t word)
 {
     return is_unknown(word) && ends_the_old_core(word) && unfit_for_kind(1, word) && translates_to_an_end(word);
 }
 
-/* Each bit that a product, a rdy or a wry may not have, alone, in every reader. */
-static void unused_bits_with_y(void)
+/* Each bit that a product, a rdy or a wry, a save or a restore may not have, alone, in every reader. */
+static void unused_bits_added(void)
 {
-    static const uint32_t operands[] = { 0x82508003, 0x82588003, 0x82D08003, 0x82D88003, 0x81808003 };
-    for (int i = 0; i < 5; i++)
+    static const uint32_t operands[] = { 0x82508003, 0x82588003, 0x82D08003, 0x82D88003,
+                                         0x81808003, 0x9DE38001, 0x91EE0011 };
+    for (int i = 0; i < 7; i++)
         for (int bit = 5; bit < 13; bit++)
             CHECK(is_illegal(operands[i] | 1u << bit));
     for (int bit = 0; bit < 19; bit++)
@@ -611,7 +617,6 @@ static int done_by_new(const struct effect *effect)
 
 static void single_products(void)
 {
-    CHECK(PIJORREL_OLD_STATE == 156 && PIJORREL_NEW_STATE == 152);
     for (size_t i = 0; i < sizeof effects / sizeof *effects; i++) {
         CHECK(done_by_old(&effects[i]));
         CHECK(done_by_new(&effects[i]));
@@ -662,6 +667,251 @@ static void a_product_is_translated(void)
     CHECK(memcmp(state, g.state, 4 * PC) == 0); /* registers and flags */
 }
 
+/* ---- register windows */
+
+/* Registers 1 to 31 are 101 to 131, flags 5, Y 7, and the windows' numbers 1000 to 1127. */
+static void put_windows(uint8_t *state, int y, uint32_t nesting)
+{
+    for (int r = 0; r < 32; r++)
+        put_number(state, r, r ? 100 + (uint32_t)r : 0);
+    put_number(state, FLAGS, 5);
+    put_number(state, y, 7);
+    put_number(state, y + 1, nesting);
+    for (int k = 0; k < 16 * WINDOWS; k++)
+        put_number(state, y + 2 + k, 1000 + (uint32_t)k);
+}
+
+/* Where a state has a window's register: ins, then locals; the outs are the ins of the next. */
+static int windowed(int y, int window, int r)
+{
+    int next = (window + 1) % WINDOWS;
+    return y + 2 + (r < 16 ? 16 * next + r - 8 : r < 24 ? 16 * window + r - 8 : 16 * window + r - 24);
+}
+
+/* The state as a core leaves it, with registers 8 to 31 among the windows. */
+static void lay_over(uint8_t *state, int y, int window)
+{
+    put_number(state, y + 1, (uint32_t)window);
+    for (int r = 8; r < 32; r++)
+        put_number(state, windowed(y, window, r), number_at(state, r));
+}
+
+/* The same in another window, with a result there. */
+static void turn_to(uint8_t *state, int y, int window, int rd, uint32_t result)
+{
+    for (int r = 8; r < 32; r++)
+        put_number(state, r, number_at(state, windowed(y, window, r)));
+    put_number(state, rd, rd ? result : 0);
+    lay_over(state, y, window);
+}
+
+/* Lent, and as it counts. */
+static const uint32_t nestings[][2] = { { 0, 0 }, { 1, 1 }, { 2, 2 }, { 3, 3 },   { 4, 4 },         { 5, 5 },
+                                        { 6, 6 }, { 7, 6 }, { 8, 6 }, { 256, 6 }, { 0xFFFFFFFF, 6 } };
+
+enum { NESTINGS = sizeof nestings / sizeof *nestings };
+
+/* A run of no words and a begin, whatever the end was: what repeats the registers is not looked at, and comes out equal
+ * to them. An end above 9 is none. */
+static int old_bytes(const uint32_t *nesting, uint32_t end)
+{
+    uint8_t known[PIJORREL_OLD_STATE];
+    struct guarded g = fresh(8);
+    put_windows(g.state, OLD_Y, nesting[0]);
+    put_number(g.state, END, end);
+    put_number(g.state, NUMBER, 77);
+    memcpy(known, g.state, sizeof known);
+    lay_over(known, OLD_Y, (int)nesting[1]);
+    put_number(known, END, end > 9 ? 0 : end);
+    put_number(known, NUMBER, end > 9 || end == 0 ? 0 : 77);
+    struct pijorrel_end stands = pijorrel_old_run(NULL, 0, 0, 0, g.state, NULL, 0, 0);
+    int same = memcmp(g.state, known, sizeof known) == 0 && stands.end == number_at(known, END);
+    put_windows(g.state, OLD_Y, nesting[0]);
+    put_number(known, END, 0);
+    put_number(known, NUMBER, 0);
+    pijorrel_old_begin(8, g.state);
+    return same && memcmp(g.state, known, sizeof known) == 0 && guards_stand(&g);
+}
+
+/* The same of the new core; its begin finds a place at 8, record 3, and none at 4. */
+static int new_bytes(const uint32_t *nesting, uint32_t end)
+{
+    uint8_t state[PIJORREL_NEW_STATE] = { 0 }, known[PIJORREL_NEW_STATE], table[16] = { 0 };
+    put_number(table, 0, 8);
+    put_number(table, 3, 3);
+    put_windows(state, NEW_Y, nesting[0]);
+    put_number(state, 35, end);
+    put_number(state, 36, 77);
+    memcpy(known, state, sizeof known);
+    lay_over(known, NEW_Y, (int)nesting[1]);
+    put_number(known, 35, end > 9 ? 0 : end);
+    put_number(known, 36, end > 9 || end == 0 ? 0 : 77);
+    struct pijorrel_end stands = pijorrel_new_run(NULL, 0, table, 16, 0, 12, 0, state, NULL, 0, 0);
+    int same = memcmp(state, known, sizeof known) == 0 && stands.end == number_at(known, 35);
+    for (uint32_t address = 8; address >= 4; address -= 4) {
+        put_windows(state, NEW_Y, nesting[0]);
+        put_number(known, 33, address == 8 ? 3 : 0);
+        put_number(known, 35, address == 8 ? 0 : 6);
+        put_number(known, 36, address == 8 ? 0 : 4);
+        pijorrel_new_begin(table, 16, 0, 12, address, state);
+        same = same && memcmp(state, known, sizeof known) == 0;
+    }
+    return same;
+}
+
+static void window_bytes(void)
+{
+    CHECK(PIJORREL_OLD_STATE == 672 && PIJORREL_NEW_STATE == 668);
+    for (int i = 0; i < NESTINGS; i++)
+        for (uint32_t end = 0; end < 12; end++) {
+            CHECK(old_bytes(nestings[i], end));
+            CHECK(new_bytes(nestings[i], end));
+        }
+    CHECK(old_bytes(nestings[0], 0xFFFFFFFF) && new_bytes(nestings[0], 0x100));
+}
+
+/* A save or restore, the window it leads from and to, and what it leaves in its rd. */
+struct turn {
+    uint32_t word;
+    int from, to;
+    uint32_t result;
+};
+
+static const struct turn all_turns[] = {
+    { 0x9DE3BFA0, 2, 3, 18 },  /* save %o6, -96, %o6 */
+    { 0xA1E44009, 0, 1, 226 }, /* save %l1, %o1, %l0: both read in the old window */
+    { 0xB1E44009, 5, 6, 226 }, /* save %l1, %o1, %i0: the old window's %o0 */
+    { 0x83E44009, 1, 2, 226 }, /* save %l1, %o1, %g1 */
+    { 0x81E00000, 3, 4, 0 },   /* save %g0, %g0, %g0 */
+    { 0xA1EC7FFF, 6, 5, 116 }, /* restore %l1, -1, %l0 */
+    { 0x91EE0011, 1, 0, 241 }, /* restore %i0, %l1, %o0: the old window's %i0 */
+    { 0xB1EE0011, 2, 1, 241 }, /* restore %i0, %l1, %i0: in the window before */
+    { 0x81EA0009, 4, 3, 0 },   /* restore %o0, %o1, %g0 */
+};
+
+static int turned_by_old(const struct turn *turn)
+{
+    uint8_t image[4], known[PIJORREL_OLD_STATE];
+    struct guarded g = fresh(0);
+    put_number(image, 0, turn->word);
+    put_windows(g.state, OLD_Y, (uint32_t)turn->from);
+    memcpy(known, g.state, sizeof known);
+    lay_over(known, OLD_Y, turn->from);
+    turn_to(known, OLD_Y, turn->to, (int)(turn->word >> 25 & 31), turn->result);
+    put_number(known, PC, 4);
+    put_number(known, NPC, 8);
+    struct pijorrel_end end = pijorrel_old_run(image, 4, 0, 0, g.state, NULL, 0, 1);
+    return end.end == 0 && memcmp(g.state, known, sizeof known) == 0 && guards_stand(&g);
+}
+
+static int turned_by_new(const struct turn *turn)
+{
+    uint8_t list[12] = { 0 }, state[PIJORREL_NEW_STATE] = { 0 }, known[PIJORREL_NEW_STATE];
+    put_number(list, 0, 1);
+    put_number(list, 1, turn->word);
+    put_windows(state, NEW_Y, (uint32_t)turn->from);
+    memcpy(known, state, sizeof known);
+    lay_over(known, NEW_Y, turn->from);
+    turn_to(known, NEW_Y, turn->to, (int)(turn->word >> 25 & 31), turn->result);
+    put_number(known, 33, 1);
+    struct pijorrel_end end = pijorrel_new_run(list, 12, NULL, 0, 0, 4, 0, state, NULL, 0, 1);
+    return end.end == 0 && memcmp(state, known, sizeof known) == 0;
+}
+
+/* The first of them by hand too: ins are the outs before, locals and outs those of window 3. */
+static void turns(void)
+{
+    uint8_t image[4];
+    struct guarded g = fresh(0);
+    for (size_t i = 0; i < sizeof all_turns / sizeof *all_turns; i++) {
+        CHECK(turned_by_old(&all_turns[i]));
+        CHECK(turned_by_new(&all_turns[i]));
+    }
+    put_number(image, 0, all_turns[0].word);
+    put_windows(g.state, OLD_Y, 2);
+    pijorrel_old_run(image, 4, 0, 0, g.state, NULL, 0, 1);
+    CHECK(number_at(g.state, 24) == 108 && number_at(g.state, 30) == 114 && number_at(g.state, 16) == 1056);
+    CHECK(number_at(g.state, 8) == 1064 && number_at(g.state, 14) == 18 && number_at(g.state, 1) == 101);
+    CHECK(number_at(g.state, 40 + 32) == 124 && number_at(g.state, 40 + 40) == 116); /* what window 2 had */
+    CHECK(number_at(g.state, 40 + 48) == 108 && number_at(g.state, 40 + 70) == 18);
+    CHECK(number_at(g.state, 39) == 3 && number_at(g.state, 40) == 1000 && number_at(g.state, 167) == 1127);
+}
+
+/* A save at 6 and a restore at 0 end the run with the nesting, and nothing else changes. */
+static int ended_by_old(uint32_t word, uint32_t nesting, uint32_t end, uint32_t number)
+{
+    uint8_t image[4], known[PIJORREL_OLD_STATE];
+    struct guarded g = fresh(0);
+    put_number(image, 0, word);
+    put_windows(g.state, OLD_Y, nesting);
+    memcpy(known, g.state, sizeof known);
+    lay_over(known, OLD_Y, (int)number);
+    put_number(known, END, end);
+    put_number(known, NUMBER, number);
+    struct pijorrel_end stands = pijorrel_old_run(image, 4, 0, 0, g.state, NULL, 0, 9);
+    return stands.end == end && stands.number == number && memcmp(g.state, known, sizeof known) == 0;
+}
+
+static int ended_by_new(uint32_t word, uint32_t nesting, uint32_t end, uint32_t number)
+{
+    uint8_t list[12] = { 0 }, state[PIJORREL_NEW_STATE] = { 0 }, known[PIJORREL_NEW_STATE];
+    put_number(list, 0, 1);
+    put_number(list, 1, word);
+    put_windows(state, NEW_Y, nesting);
+    memcpy(known, state, sizeof known);
+    lay_over(known, NEW_Y, (int)number);
+    put_number(known, 35, end);
+    put_number(known, 36, number);
+    struct pijorrel_end stands = pijorrel_new_run(list, 12, NULL, 0, 0, 4, 0, state, NULL, 0, 9);
+    return stands.end == end && stands.number == number && memcmp(state, known, sizeof known) == 0;
+}
+
+static void no_window_left(void)
+{
+    static const uint32_t saves[] = { 0x9DE3BFA0, 0x83E44009, 0x81E00000 };
+    static const uint32_t restores[] = { 0x91EE0011, 0x83EC4009, 0x81E80000 };
+    for (int k = 0; k < 3; k++) {
+        for (int i = 6; i < NESTINGS; i++) {
+            CHECK(ended_by_old(saves[k], nestings[i][0], 8, 6));
+            CHECK(ended_by_new(saves[k], nestings[i][0], 8, 6));
+        }
+        CHECK(ended_by_old(restores[k], 0, 9, 0));
+        CHECK(ended_by_new(restores[k], 0, 9, 0));
+    }
+}
+
+/* A record may say ends 2 and 3 alone, also not 8 and 9; and a kind 3 holds neither word. */
+static void ends_of_windows(void)
+{
+    for (uint32_t first = 0; first < 12; first++)
+        CHECK(unfit_for_kind(7, first) == (first != 2 && first != 3));
+    CHECK(unfit_for_kind(3, 0x81E00000) && unfit_for_kind(3, 0x81E80000));
+}
+
+/* save %o6, -96, %o6; call 20; nop; ta 0; nop; save %o6, -96, %o6; jmp %i7 + 8; restore %g0, 5, %o0: a routine that
+ * returns 5, called from a window that is not the first. */
+static void windows_are_translated(void)
+{
+    static const uint32_t words[] = { 0x9DE3BFA0, 0x40000004, 0x01000000, 0x91D02000,
+                                      0x01000000, 0x9DE3BFA0, 0x81C7E008, 0x91E82005 };
+    uint8_t image[32], entry[4] = { 0 }, table[7 * 16], list[14 * 12], state[PIJORREL_NEW_STATE] = { 0 };
+    struct guarded g = fresh(0);
+    for (int i = 0; i < 8; i++)
+        put_number(image, i, words[i]);
+    put_number(g.state, 14, 4096);
+    put_number(state, 14, 4096);
+    struct pijorrel_answer a = pijorrel_translate(image, 32, 0, entry, 4, table, sizeof table, list, sizeof list);
+    CHECK(a.number == 0 && a.first == 7 && a.second == 13);
+    CHECK(number_at(list, 0) == 1 && number_at(list, 1) == words[0] && number_at(list, 3) == 5);
+    pijorrel_new_begin(table, 16 * a.first, 0, 32, 0, state);
+    struct pijorrel_end end = pijorrel_new_run(list, 12 * a.second, table, 16 * a.first, 0, 32, 0, state, NULL, 0, 99);
+    CHECK(end.end == 1 && end.number == 0 && number_at(state, 8) == 5 && number_at(state, 14) == 4000);
+    CHECK(number_at(state, NEW_Y + 1) == 1 && number_at(state, NEW_Y + 2 + 48 + 6) == 3904); /* window 2's %o6 */
+    end = pijorrel_old_run(image, 32, 0, 0, g.state, NULL, 0, 99);
+    CHECK(end.end == 1 && memcmp(state, g.state, 4 * PC) == 0);
+    CHECK(memcmp(state + 4 * NEW_Y, g.state + 4 * OLD_Y, 4 * (2 + 16 * WINDOWS)) == 0); /* Y, nesting, windows */
+}
+
 int main(void)
 {
     couple_of_branches();
@@ -676,15 +926,20 @@ int main(void)
     each_form();
     no_other_form();
     each_field();
-    each_field_with_y();
+    each_field_added();
     highest_unfit();
     numbers_beside();
     unused_bits();
     unused_bits_elsewhere();
-    unused_bits_with_y();
+    unused_bits_added();
     single_products();
     y_stays();
     a_product_is_translated();
+    window_bytes();
+    turns();
+    no_window_left();
+    ends_of_windows();
+    windows_are_translated();
     printf("%d of %d checks of the C interface hold\n", checks - failures, checks);
     return failures != 0;
 }

@@ -2,7 +2,8 @@
 """Compares the old core's trails with QEMU's user mode for SPARC, entry by entry, on random programs.
 
 Of each program the library makes the old core's trail, and QEMU logs its state before each word that it runs.
-Address, registers, flags and Y must agree at every entry; the data, through the loads that close each program.
+Address, registers, flags, Y and nesting must agree at every entry; the data and the windows that are not the current
+one, through the loads, restores and saves that close each program.
 """
 import argparse
 import itertools
@@ -19,17 +20,19 @@ from pathlib import Path
 
 sys.dont_write_bytecode = True
 import programs
-from programs import CONDITIONS, CONTROL, EXIT_TRAP, PROLOGUE
+from programs import CONDITIONS, CONTROL, EXIT_TRAP, MOST_NESTING, OPENING, PROLOGUE, WINDOWS
 
 HERE = Path(__file__).resolve().parent
 TOP = HERE.parent.parent
 MOST_STEPS = PROLOGUE + 200
 PAGE = 4096
 TRAP_TAKEN = 1
+TOO_MANY = {("save", MOST_NESTING): 8, ("restore", 0): 9}
 BRANCHES = [kind for kind in CONTROL if kind not in ("call", "jmpl")]
-OPERATIONS = [*programs.ARITHMETIC, *programs.PRODUCTS, *programs.SHIFTS, *programs.MEMORY, "wry", "jmpl"]
+OPERATIONS = [*programs.ARITHMETIC, *programs.PRODUCTS, *programs.SHIFTS, *programs.MEMORY, *WINDOWS, "wry",
+              "jmpl"]
 
-Entry = namedtuple("Entry", "address registers flags y")
+Entry = namedtuple("Entry", "address registers flags y nesting")
 Run = namedtuple("Run", "end number steps entries data")
 
 
@@ -48,7 +51,7 @@ class Library:
         self.process.stdin.write(struct.pack(">5I", *header) + program.image + program.data)
         self.process.stdin.flush()
         end, number, steps, count = struct.unpack(">4I", self.read(16))
-        rows = struct.iter_unpack(">35I", self.read(count * 35 * 4))
+        rows = struct.iter_unpack(">36I", self.read(count * 36 * 4))
         entries = [Entry(row[0], row[1:33], *row[33:]) for row in rows]
         return Run(end, number, steps, entries, self.read(len(program.data)))
 
@@ -67,7 +70,7 @@ class Qemu:
     """Runs a program in QEMU, a word at a time, and reads its log."""
 
     BLOCK = re.compile(r"pc: (\w+) +npc: \w+\n%g0-7: (.+)\n%o0-7: (.+)\n%l0-7: (.+)\n%i0-7: (.+)\n"
-                       r"psr: \w+ \(icc: ([N-])([Z-])([V-])([C-]).*\nfsr: \w+ y: (\w+)")
+                       r"psr: (\w+) \(icc: ([N-])([Z-])([V-])([C-]).*\nfsr: \w+ y: (\w+)")
 
     def __init__(self, folder):
         help_text = subprocess.run(["qemu-sparc", "-h"], capture_output=True, text=True).stdout
@@ -78,7 +81,7 @@ class Qemu:
     def run(self, program):
         """The trail in its log, and how the process ended: 0 for the exit trap."""
         entries, status, _ = self.run_file(elf_file(program))
-        return entries, status
+        return without_repeats(entries, program.word_at), status
 
     def run_file(self, executable):
         """The same of an executable's bytes, and what the process wrote."""
@@ -93,13 +96,32 @@ class Qemu:
         except subprocess.TimeoutExpired:
             status = "no end in time"
         log = self.log.read_text() if self.log.exists() else ""
-        return [self.entry(block) for block in self.BLOCK.findall(log)], status, output
+        blocks = self.BLOCK.findall(log)
+        return [self.entry(block, window_in(blocks[0])) for block in blocks], status, output
 
     @staticmethod
-    def entry(block):
+    def entry(block, first_window):
+        """The windows are counted down by a save: the nesting is how far, as long as that is less than eight."""
         registers = tuple(int(number, 16) for number in " ".join(block[1:5]).split())
-        flags = int("".join("0" if flag == "-" else "1" for flag in block[5:9]), 2)
-        return Entry(int(block[0], 16), registers, flags, int(block[9], 16))
+        flags = int("".join("0" if flag == "-" else "1" for flag in block[6:10]), 2)
+        return Entry(int(block[0], 16), registers, flags, int(block[10], 16), (first_window - window_in(block)) % 8)
+
+
+def window_in(block):
+    """PSR's last five bits."""
+    return int(block[5], 16) & 31
+
+
+def repeats(entries, word_at):
+    """The positions of entries that are none. QEMU logs a save or restore twice where it spills or fills a window
+    first; one that is done changes the nesting, so that of two in a row that do not differ the second is none."""
+    return [at for at in range(1, len(entries))
+            if entries[at] == entries[at - 1] and programs.kind_of(word_at(entries[at].address)) in programs.WINDOWS]
+
+
+def without_repeats(entries, word_at):
+    passed_over = set(repeats(entries, word_at))
+    return [entry for at, entry in enumerate(entries) if at not in passed_over]
 
 
 def limit_files():
@@ -123,25 +145,30 @@ def elf_file(program):
 
 
 def settle(program, library):
-    """The library's run, once each trap taken on the way has been made one that never is; None if it loops."""
+    """The library's run, once each trap taken on the way has been made one that never is, and each save or restore too
+    many a sum; None if it loops."""
     while True:
         run = library.run(program)
         if run.end == 0:
             return None
         last = run.entries[-1]
-        if run.end != TRAP_TAKEN or last.address == program.exit_address:
-            return run
         word = program.word_at(last.address)
-        if programs.kind_of(word) != "ticc" or not programs.condition_holds(word, last.flags):
-            return run  # no trap, or one whose condition fails: the comparison will show it
-        program.make_trap_never(last.address)
+        kind = programs.kind_of(word)
+        if run.end == TRAP_TAKEN and last.address != program.exit_address and kind == "ticc" \
+                and programs.condition_holds(word, last.flags):
+            program.make_trap_never(last.address)
+        elif run.end == TOO_MANY.get((kind, last.nesting)) and run.number == last.nesting:
+            program.make_sum_alone(last.address)
+        else:
+            return run  # the exit, or what the comparison will show
 
 
 def show_entry(entry):
     if entry is None:
         return "no entry"
     rows = [" ".join(f"{number:08x}" for number in entry.registers[at:at + 8]) for at in range(0, 32, 8)]
-    return f"address {entry.address:08x} flags {entry.flags:04b} y {entry.y:08x}\n    " + "\n    ".join(rows)
+    return (f"address {entry.address:08x} flags {entry.flags:04b} y {entry.y:08x} nesting {entry.nesting}\n    "
+            + "\n    ".join(rows))
 
 
 def fail(program, message):
@@ -153,10 +180,10 @@ def fail(program, message):
 
 
 def check_equal(program, run, logged, status):
-    """Entry 0 is passed over: the stack pointer that QEMU hands over is gone from entry 1 on."""
+    """Those of the opening are passed over: then the stack pointer that QEMU hands over is gone."""
     for number, (ours, theirs) in enumerate(itertools.zip_longest(run.entries, logged)):
-        if number > 0 and ours != theirs:
-            fail(program, f"entry {number} differs (flags N Z V C, Y, registers 0 to 31; qemu status {status})\n"
+        if number > OPENING and ours != theirs:
+            fail(program, f"entry {number} differs (flags N Z V C, registers 0 to 31; qemu status {status})\n"
                           f"library: {show_entry(ours)}\nqemu:    {show_entry(theirs)}")
     if (run.end, run.number, logged[-1].address, status) != (TRAP_TAKEN, EXIT_TRAP, program.exit_address, 0):
         fail(program, f"no exit trap: library end {run.end} with {run.number}, qemu status {status}")
@@ -166,31 +193,37 @@ def check_equal(program, run, logged, status):
 
 
 class Tally:
-    """Counts what was compared, from QEMU's entries after the prologue."""
+    """Counts what was compared, from QEMU's entries after the prologue and beside the walk through the windows."""
 
     def __init__(self):
-        self.counts, self.branches, self.forms = Counter(), Counter(), Counter()
+        self.counts, self.branches, self.forms, self.nestings = Counter(), Counter(), Counter(), Counter()
         self.couples, self.annulled_couples = Counter(), Counter()
 
     def add(self, program, entries, steps):
-        self.counts.update(programs=1, entries=len(entries), annulled=steps - PROLOGUE - len(entries))
+        met = [entry for entry in entries if entry.address not in program.walk]
+        self.counts.update(programs=1, entries=len(met), walks=len(entries) - len(met),
+                           annulled=steps - PROLOGUE - len(entries))
         owner = None  # the branch, call or jmpl whose delay slot this entry is
-        for entry in entries:
+        for entry in met:
             word = program.word_at(entry.address)
             kind = programs.kind_of(word)
-            self.count_word(kind, word, entry.flags)
+            self.count_word(kind, word, entry)
             if owner and kind in CONTROL:
                 self.couples[owner, kind] += 1
+            if owner and kind in WINDOWS:
+                self.counts["windows in slots"] += 1
             slot_runs = kind in CONTROL and programs.executes_delay_slot(word, entry.flags)
             if kind in CONTROL and not owner and not slot_runs:
                 self.count_annulled(kind, program.word_at(entry.address + 4))
             owner = kind if slot_runs else None
 
-    def count_word(self, kind, word, flags):
+    def count_word(self, kind, word, entry):
         if kind in BRANCHES:
-            self.branches[programs.condition_of(word), kind.endswith(",a"), flags] += 1
+            self.branches[programs.condition_of(word), kind.endswith(",a"), entry.flags] += 1
         elif kind in OPERATIONS:
             self.forms[kind, word >> 13 & 1] += 1
+        if kind in WINDOWS:
+            self.nestings[kind, entry.nesting] += 1
         if kind == "jmpl" and word >> 25 & 31 == word >> 14 & 31:
             self.counts["jmpl over rs1"] += 1
         if kind in programs.PRODUCTS and word >> 25 & 31 == 0:
@@ -205,8 +238,8 @@ class Tally:
         counts = self.counts
         total = lambda names: sum(counts[name] for name in names)
         print(f"programs {counts['programs']} (thrown away for their loops: {counts['looping']})")
-        print(f"entries equal in their prologues {counts['programs'] * (PROLOGUE - 1)}, "
-              f"after them {counts['entries']}")
+        print(f"entries equal in their prologues {counts['programs'] * (PROLOGUE - OPENING - 1)}, "
+              f"in walks through the windows {counts['walks']}, else {counts['entries']}")
         self.show_branches()
         print(f"branches in delay slots of others {sum(self.couples.values())}, "
               f"pairings {len(self.couples)} of {6 * 8}")
@@ -219,7 +252,13 @@ class Tally:
               f"ticc untaken {counts['ticc'] - counts['programs']}")
         print(f"products {total(programs.PRODUCTS)} (to register 0 {counts['products to 0']}), rdy {counts['rdy']}, "
               f"wry {counts['wry']}")
+        print(f"save {counts['save']}, restore {counts['restore']}, in delay slots {counts['windows in slots']}; "
+              f"by nesting: {self.by_nesting('save', 0)}, {self.by_nesting('restore', 1)}")
         print(f"operations with a register and with a constant {len(self.forms)} of {2 * len(OPERATIONS)}")
+
+    def by_nesting(self, kind, first):
+        met = ", ".join(str(self.nestings[kind, first + at]) for at in range(MOST_NESTING))
+        return f"{kind} at {first} to {first + MOST_NESTING - 1} {met}"
 
     def show_branches(self):
         print("condition    taken  untaken   with annul: taken  untaken")
@@ -234,12 +273,24 @@ class Tally:
                    if programs.HOLDS[condition] >> flags & 1 == taken)
 
 
-def recorded(program, entries):
+def windows_shown(entries):
+    """The 128 numbers of windows at the last of these entries, which show each but the one that is never current."""
+    windows = [0] * 128
+    for entry in entries:
+        for register in range(8, 32):
+            windows[programs.window_number(entry.nesting, register)] = entry.registers[register]
+    return windows
+
+
+def recorded(program, logged):
     """The program without its prologue, and QEMU's entries: six numbers as below, the state before the first
-    entry (39 numbers as in pijorrel.h), the image, the data, the entries (35 numbers each), the data after them."""
-    first, image = entries[0], program.image[4 * PROLOGUE:]
+    entry (168 numbers as in pijorrel.h), the image, the data, the entries (35 numbers each: address, registers, flags
+    and Y), the data after them."""
+    entries, image = logged[PROLOGUE:], program.image[4 * PROLOGUE:]
+    first = entries[0]
     numbers = [0x5452414C, len(image), first.address, program.data_base, len(program.data), len(entries)]
-    numbers += [*first.registers, first.flags, first.address, first.address + 4, 0, 0, 0, first.y]
+    numbers += [*first.registers, first.flags, first.address, first.address + 4, 0, 0, 0, first.y, first.nesting]
+    numbers += windows_shown(logged[OPENING:PROLOGUE + 1])
     trail = [number for entry in entries for number in (entry.address, *entry.registers, entry.flags, entry.y)]
     after = program.data_shown(entries[-1].registers)
     return b"".join((struct.pack(f">{len(numbers)}I", *numbers), image, program.data,
@@ -260,9 +311,8 @@ def compare(options, library, qemu):
             continue
         logged, status = qemu.run(program)
         check_equal(program, run, logged, status)
-        entries = logged[PROLOGUE:]
-        tally.add(program, entries, run.steps)
-        records.append(recorded(program, entries))
+        tally.add(program, logged[PROLOGUE:], run.steps)
+        records.append(recorded(program, logged))
 
 
 def options_given():

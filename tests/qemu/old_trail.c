@@ -2,7 +2,7 @@
  *
  * A program: image length, base, data length, data base, the most steps to take; then the image and the data.
  * Its answer: the end, the end's number, how many words were passed, how many entries; then the entries
- * (address, registers 0 to 31, flags, Y) and the data as the run left it. */
+ * (address, registers 0 to 31, flags, Y, nesting) and the data as the run left it. */
 #include <stdint.h>
 #include <stdio.h>
 #include <stdlib.h>
@@ -10,7 +10,7 @@
 
 #include "pijorrel.h"
 
-enum { MOST_IMAGE = 16384, MOST_DATA = 65536, MOST_STEPS = 4096, ENTRY = 4 * 35 };
+enum { MOST_IMAGE = 16384, MOST_DATA = 65536, MOST_STEPS = 4096, ENTRY = 4 * 36 };
 enum { FLAGS = 4 * 32, PC = 4 * 33, ANNUL = 4 * 35, END = 4 * 36, Y = 4 * 38 };
 
 static uint8_t image[MOST_IMAGE], data[MOST_DATA], entries[MOST_STEPS][ENTRY];
@@ -38,7 +38,7 @@ static void note_entry(uint8_t *entry, const uint8_t *state)
 {
     memcpy(entry, state + PC, 4);
     memcpy(entry + 4, state, FLAGS + 4); /* the registers, and the flags right after them */
-    memcpy(entry + ENTRY - 4, state + Y, 4);
+    memcpy(entry + ENTRY - 8, state + Y, 8); /* the nesting right after it */
 }
 
 static void answer(const uint8_t *header)

@@ -1,5 +1,5 @@
 /* How much stack each call takes, on x86-64: a thread with a painted stack makes the call, and the paint that is left is
- * counted. The header states the bounds that are asked here. To be linked with -z now, so that memset is bound before a
+ * counted. A state is its caller's, and not counted. The header states the bounds that are asked here. To be linked with -z now, so that memset is bound before a
  * thread begins: else the dynamic linker does it at the first call, on the stack that is measured. */
 #define _POSIX_C_SOURCE 200809L
 #include <pthread.h>
@@ -26,7 +26,7 @@ static void *translate(void *argument)
 
 static void *run_old(void *argument)
 {
-    uint8_t state[PIJORREL_OLD_STATE] = { 0 };
+    static uint8_t state[PIJORREL_OLD_STATE];
     pijorrel_old_begin(0, state);
     pijorrel_old_run(image, sizeof image, 0, 0, state, data, sizeof data, 65535);
     return argument;
@@ -34,7 +34,7 @@ static void *run_old(void *argument)
 
 static void *run_new(void *argument)
 {
-    uint8_t state[PIJORREL_NEW_STATE] = { 0 };
+    static uint8_t state[PIJORREL_NEW_STATE];
     pijorrel_new_begin(places, sizeof places, 0, IMAGE, 0, state);
     pijorrel_new_run(records, sizeof records, places, sizeof places, 0, IMAGE, 0, state, data, sizeof data, 65535);
     return argument;
@@ -68,17 +68,17 @@ static size_t stack_of(void *(*work)(void *), void *argument)
     return sizeof stack - left;
 }
 
-/* Conditional branches throughout, so that the walk has thousands of places to find; in every eighth word a product,
- * umulcc %g1, %g1, %g2. */
+/* Conditional branches throughout, so that the walk has thousands of places to find; every eighth word is in turn a
+ * product, umulcc %g1, %g1, %g2, a save %o6, -96, %o6 and a restore. */
 static void make_image(void)
 {
-    static const uint8_t product[4] = { 0x84, 0xD0, 0x40, 0x01 };
+    static const uint8_t others[3][4] = { { 0x84, 0xD0, 0x40, 0x01 }, { 0x9D, 0xE3, 0xBF, 0xA0 }, { 0x81, 0xE8 } };
     for (size_t i = 0; i < sizeof image; i += 4) {
         image[i] = 0x12;
         image[i + 1] = 0x80;
         image[i + 3] = 2;
         if (i % 32 == 28)
-            memcpy(image + i, product, sizeof product);
+            memcpy(image + i, others[i / 32 % 3], sizeof *others);
     }
 }
 

@@ -1,7 +1,7 @@
 /* Whole runs of both cores: over each image of a file of translator cases that is accepted, and its translation, from
- * every plain place with seeded registers, Y, flags and data, cut at several numbers of entries. With one record of
- * each translation spoiled, it shows that the comparison can fail. Leaves with 0 if all trails are as demand 3 says, 1
- * if some are not, 2 if nothing can be said. */
+ * every plain place with seeded registers, windows, Y, flags and data, cut at several numbers of entries. With one
+ * record of each translation spoiled, it shows that the comparison can fail. Leaves with 0 if all trails are as
+ * demand 3 says, 1 if some are not, 2 if nothing can be said. */
 #include <inttypes.h>
 #include <stdio.h>
 #include <stdlib.h>
@@ -11,14 +11,14 @@
 #include "../stored.h"
 #include "trails.h"
 
-enum { TAG = 0x54524E53, STARTS = 8, PLACES_ROOM = 1 << 13, RECORDS_ROOM = 3 << 12 };
+enum { TAG = 0x54524E53, STARTS = 8, PLACES_ROOM = 1 << 13, RECORDS_ROOM = 3 << 12, ENDS = 10 };
 
 static const int cuts[] = { 1, 2, 3, 8, LONGEST_CUT };
 
 /* What was seen. Entries are counted once for both trails; ends are those that close the new trails; shown are the
  * spoiled images with a difference. */
 static struct {
-    unsigned long images, places, pairs, entries, exceptions, differences, ends[8], spoiled, shown;
+    unsigned long images, places, pairs, entries, exceptions, differences, ends[ENDS], spoiled, shown;
 } seen;
 
 /* A case of the file. */
@@ -71,7 +71,16 @@ static void fill(uint8_t *bytes, size_t length)
         bytes[i] = (uint8_t)draw();
 }
 
-/* A start at an address. Register 0 and the high bits of the flags' number are not read. */
+/* Y, a nesting, seldom one above 6, and all windows. */
+static void any_windows(const struct program *program, uint32_t data_base, uint8_t *windows)
+{
+    for (int k = 0; k < Y_AND_WINDOWS / 4; k++)
+        put_word(windows + 4 * k, any_register(program, data_base));
+    put_word(windows + 4, below(8) ? below(7) : 7 + (draw() >> below(32)));
+}
+
+/* A start at an address. Register 0, the high bits of the flags' number and the current window's numbers among the
+ * windows are not read. */
 static void any_start(const struct program *program, uint32_t address, struct start *start)
 {
     static const uint32_t bases[] = { 0, 0x8000, 0xFFFFFFE0 };
@@ -81,7 +90,7 @@ static void any_start(const struct program *program, uint32_t address, struct st
     for (int r = 0; r < 32; r++)
         put_word(start->machine + 4 * r, any_register(program, start->data_base));
     put_word(start->machine + 128, draw());
-    start->y = any_register(program, start->data_base);
+    any_windows(program, start->data_base, start->windows);
     fill(start->data, DATA_ROOM);
 }
 
@@ -100,7 +109,7 @@ static void compare(const struct program *program, const struct start *start, in
     trail_of(begin_new, program, start, cut, &new);
     what = difference(program, start, &old, &new);
     seen.pairs++;
-    seen.ends[new.end < 8 ? new.end : 7]++;
+    seen.ends[new.end % ENDS]++;
     if (what) {
         report(start, cut, what);
         return;
@@ -216,8 +225,8 @@ static void print_seen(void)
     printf("trails: %lu images, %lu plain places, %lu pairs of trails, %lu entries compared, %lu met the exception, "
            "%lu differ\n", seen.images, seen.places, seen.pairs, seen.entries, seen.exceptions, seen.differences);
     printf("trails: closed with");
-    for (int end = 0; end < 8; end++)
-        printf(" %d: %lu%s", end, seen.ends[end], end < 7 ? "," : "\n");
+    for (int end = 0; end < ENDS; end++)
+        printf(" %d: %lu%s", end, seen.ends[end], end + 1 < ENDS ? "," : "\n");
 }
 
 static void print_spoiled(uint32_t kind)

@@ -4,14 +4,14 @@
 
 #include "../../bench/numbers.h"
 
-enum { FLAGS = 32 };
+enum { FLAGS = 32, NESTING = 1, RING = 2, DEEPEST = 6 }; /* the last three: behind Y */
 
 static void add_entry(struct trail *trail, const struct walk *walk)
 {
     struct entry *entry = &trail->entries[trail->count++];
     entry->address = walk->address;
-    entry->y = walk->y;
     memcpy(entry->machine, walk->state, REGISTERS_AND_FLAGS);
+    memcpy(entry->windows, walk->windows, Y_AND_WINDOWS);
     memcpy(entry->data, walk->data, DATA_ROOM);
     trail->landed = walk->landed;
 }
@@ -33,8 +33,9 @@ void trail_of(begin_function *begin, const struct program *program, const struct
 {
     uint8_t data[DATA_ROOM];
     struct walk walk = { .program = program, .data_base = start->data_base, .data = data,
-                         .data_length = start->data_length, .y = start->y };
+                         .data_length = start->data_length };
     memcpy(walk.state, start->machine, REGISTERS_AND_FLAGS);
+    memcpy(walk.windows, start->windows, Y_AND_WINDOWS);
     memcpy(data, start->data, DATA_ROOM);
     begin(&walk, start->address);
     read_trail(&walk, cut, trail);
@@ -42,8 +43,8 @@ void trail_of(begin_function *begin, const struct program *program, const struct
 
 static bool same_entry(const struct entry *one, const struct entry *other)
 {
-    return one->address == other->address && one->y == other->y
-        && memcmp(one->machine, other->machine, REGISTERS_AND_FLAGS) == 0
+    return one->address == other->address && memcmp(one->machine, other->machine, REGISTERS_AND_FLAGS) == 0
+        && memcmp(one->windows, other->windows, Y_AND_WINDOWS) == 0
         && memcmp(one->data, other->data, DATA_ROOM) == 0;
 }
 
@@ -55,16 +56,31 @@ static bool same_entries(const struct trail *one, const struct trail *other, int
     return true;
 }
 
-/* The start as an entry shows it: register 0 is 0, and of the flags there are four. */
+/* The nesting as it counts, and the current window's ins, locals and outs, which come one after the other, as the
+ * registers have them. */
+static void lay_over(struct entry *entry)
+{
+    uint32_t nesting = word_at(entry->windows + 4 * NESTING);
+    uint32_t window = nesting < DEEPEST ? nesting : DEEPEST;
+    uint8_t *ins = entry->windows + 4 * (RING + 16 * window);
+    put_word(entry->windows + 4 * NESTING, window);
+    memcpy(ins, entry->machine + 4 * 24, 32);
+    memcpy(ins + 32, entry->machine + 4 * 16, 32);
+    memcpy(ins + 64, entry->machine + 4 * 8, 32);
+}
+
+/* The start as an entry shows it: register 0 is 0, of the flags there are four, and the registers stand in their
+ * window. */
 static bool begins_at(const struct trail *trail, const struct start *start)
 {
     struct entry first;
     first.address = start->address;
-    first.y = start->y;
     memcpy(first.machine, start->machine, REGISTERS_AND_FLAGS);
+    memcpy(first.windows, start->windows, Y_AND_WINDOWS);
     memcpy(first.data, start->data, DATA_ROOM);
     put_word(first.machine, 0);
     put_word(first.machine + 4 * FLAGS, word_at(start->machine + 4 * FLAGS) % 16);
+    lay_over(&first);
     return trail->count > 0 && same_entry(&trail->entries[0], &first);
 }
 

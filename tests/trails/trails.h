@@ -8,14 +8,14 @@ enum { DATA_ROOM = 64, LONGEST_CUT = 40 };
 
 /* What both cores begin with; of the data only the first bytes, so many as the length says, are lent. */
 struct start {
-    uint32_t address, data_base, y;
+    uint32_t address, data_base;
     size_t data_length;
-    uint8_t machine[REGISTERS_AND_FLAGS], data[DATA_ROOM];
+    uint8_t machine[REGISTERS_AND_FLAGS], windows[Y_AND_WINDOWS], data[DATA_ROOM];
 };
 
 struct entry {
-    uint32_t address, y;
-    uint8_t machine[REGISTERS_AND_FLAGS], data[DATA_ROOM];
+    uint32_t address;
+    uint8_t machine[REGISTERS_AND_FLAGS], windows[Y_AND_WINDOWS], data[DATA_ROOM];
 };
 
 struct trail {

@@ -24,6 +24,7 @@ CALL, BICC, SETHI, RDY, WRY, JMPL, TICC = 64, 2, 4, 168, 176, 184, 186
 ARITHMETIC = {"add": 0, "and": 1, "or": 2, "xor": 3, "sub": 4, "andn": 5, "orn": 6, "xnor": 7, "addx": 8, "subx": 12}
 ARITHMETIC.update({"umul": 10, "smul": 11})
 ARITHMETIC.update({name + "cc": op3 + 16 for name, op3 in ARITHMETIC.items()})
+ARITHMETIC.update({"save": 60, "restore": 61})
 SHIFTS = {165: "sll", 166: "srl", 167: "sra"}
 LOADS = {192: "ld", 193: "ldub", 194: "lduh", 201: "ldsb", 202: "ldsh"}
 STORES = {196: "st", 197: "stb", 198: "sth"}

@@ -1,5 +1,6 @@
--- What every machine of a run is: a file of registers and Y, of 32 bits each, register 0 being 0, four flags, n bytes of data. A word leaves it so.
-use Prim.Native.Nat.{ℕ, zero, suc, _+_, _*_, _/_, _%_, _^_, _≤_, _<_}
+-- What every machine of a run is: a file of numbers of 32 bits, register 0 being 0, what the current window covers 0, and the nesting at most 6;
+-- four flags; n bytes of data. A word leaves it so.
+use Prim.Native.Nat.{ℕ, zero, suc, _+_, _-_, _*_, _/_, _%_, _^_, _≤_, _<_}
 use native.Mathlib.Omega.{arith}
 use native.Mathlib.Nat.{div-le-self}
 use mathlib.Core.Path.{_≡_, refl, _∙_}
@@ -26,27 +27,36 @@ use Rattle.words.specs.declared.Operation.{Operation}
 use Rattle.words.specs.declared.Operation.the-variants.{Add, And, Or, Xor, Sub, Andn, Orn, Xnor, Addx, Subx, Umul, Smul}
 use Rattle.words.specs.declared.ShiftOperation.{ShiftOperation}
 use Rattle.words.specs.declared.ShiftOperation.the-variants.{Sll, Srl, Sra}
+use Rattle.words.specs.declared.WindowOperation.{WindowOperation}
+use Rattle.words.specs.declared.WindowOperation.the-variants.{Save, Restore}
 use Rattle.words.specs.declared.Instruction.{Instruction}
-use Rattle.words.specs.declared.Instruction.the-variants.{Illegal, Call, Sethi, Bicc, Arithmetic, Jmpl, Ticc, Load, Store, Shift, Rdy, Wry}
+use Rattle.words.specs.declared.Instruction.the-variants.{Illegal, Call, Sethi, Bicc, Arithmetic, Jmpl, Ticc, Load, Store, Shift, Rdy, Wry, Window}
 use Rattle.machine.specs.Ends.{Ending, ending, Next, go, halt, within}
 use Rattle.machine.specs.Registers.{fileSize, registerOf, putRegister, yOf, putY, valueOf, addressOf}
 use Rattle.machine.specs.Arithmetic.{top, Outcome, outcome, sumOf, differenceOf, logicOf, flipped, shiftedLeft, shiftedRight, shiftedSigned, exactProduct, productOf, shiftOf, outcomeOf, carryOf, putHigh, arithmeticOf}
 use Rattle.machine.specs.DataArea.{widthOf, signOf, sizeOf, valueAt, putValue, loadedAt, access, loadOf, storeOf}
 use Rattle.machine.specs.Effect.{Machine, trapOf, withRegisters, withArea, effectOf}
-use Rattle.machine.proofs.Zero.{Zero, put-zero, y-zero}
+use Rattle.machine.specs.Windows.{nestingOf, Clear, Held, turned, windowOf}
+use Rattle.machine.proofs.Zero.{Zero, y-zero}
+use Rattle.machine.proofs.Ring.{put-held, y-nesting, y-clear, turned-below, turned-held}
 use Rattle.machine.proofs.Products.{modulo-lt}
 
 pub record Sound (n : ℕ) (m : Machine) : Type 0 where
   pub whole : length (m .registers) ≡ fileSize
   pub registers : Below (2 ^ 32) (m .registers)
   pub zero : Zero (m .registers)
+  pub clear : Clear (m .registers)
+  pub nesting : nestingOf (m .registers) ≤ 6
   pub flags : m .flags < 16
   pub area : Below 256 (m .area)
   pub sized : length (m .area) ≡ n
 
--- what a word or a step leaves: a sound state, or an end of 1 to 7 with a number of 32 bits beside it
+pub held : (n : ℕ) (m : Machine) → Sound n m → Held (m .registers)
+held n m s = record { whole = s .whole; zero = s .zero; clear = s .clear; nesting = s .nesting }
+
+-- what a word or a step leaves: a sound state, or an end of 1 to 9 with a number of 32 bits beside it
 abbrev pub SoundEnd : Ending → Type 0
-SoundEnd (ending k v) = (1 ≤ k) × (k ≤ 7) × (v < 2 ^ 32)
+SoundEnd (ending k v) = (1 ≤ k) × (k ≤ 9) × (v < 2 ^ 32)
 
 abbrev pub Leaves : {S : Type 0} → (S → Type 0) → Next S → Type 0
 Leaves P (go s) = P s
@@ -76,6 +86,7 @@ fitsIn (Store w rd rs1 x) = fits x
 fitsIn (Shift o rd rs1 x) = fits x
 fitsIn (Rdy rd) = true
 fitsIn (Wry s) = fits (s .operand)
+fitsIn (Window o rd rs1 x) = fits x
 
 operand-fits : (word : ℕ) → fits (operandOf word) ≡ true
 unfolding operandOf bits
@@ -98,17 +109,16 @@ unfolding instructionOf
 word-fits word = left-strictly (λ (i : Instruction). fitsIn i ≡ true) word _ refl (format-fits (bits word 30 2) word)
 
 -- ---------------------------------------------------------------- registers
-pub put-length : (rs : List ℕ) (i v : ℕ) → length (putRegister rs i v) ≡ length rs
-unfolding putRegister
-put-length rs i v = length-set (set rs (i % 32) v) 0 0 ∙ length-set rs (i % 32) v
-
 pub put-sound : (n : ℕ) (m : Machine) (i v : ℕ) → Sound n m → v < 2 ^ 32 → Sound n (withRegisters m (putRegister (m .registers) i v))
 unfolding putRegister
 put-sound n m i v s h =
+    let k = put-held (m .registers) (held n m s) i v in
     record {
-      whole = put-length (m .registers) i v ∙ s .whole;
+      whole = k .whole;
       registers = below-set (2 ^ 32) (set (m .registers) (i % 32) v) 0 0 (omega arith) (below-set (2 ^ 32) (m .registers) (i % 32) v h (s .registers));
-      zero = put-zero (m .registers) i v;
+      zero = k .zero;
+      clear = k .clear;
+      nesting = k .nesting;
       flags = s .flags;
       area = s .area;
       sized = s .sized;
@@ -121,10 +131,42 @@ y-sound n m v s h =
       whole = length-set (m .registers) 32 v ∙ s .whole;
       registers = below-set (2 ^ 32) (m .registers) 32 v h (s .registers);
       zero = y-zero (m .registers) v (s .zero);
+      clear = y-clear (m .registers) v (s .clear);
+      nesting = rw (y-nesting (m .registers) v) (s .nesting);
       flags = s .flags;
       area = s .area;
       sized = s .sized;
     }
+
+turn-sound : (n : ℕ) (m : Machine) (v : ℕ) → Sound n m → v ≤ 6 → Sound n (withRegisters m (turned v (m .registers)))
+turn-sound n m v s h =
+    let k = turned-held (m .registers) (held n m s) v h in
+    record {
+      whole = k .whole;
+      registers = turned-below v (m .registers) (omega arith) (s .registers);
+      zero = k .zero;
+      clear = k .clear;
+      nesting = k .nesting;
+      flags = s .flags;
+      area = s .area;
+      sized = s .sized;
+    }
+
+-- a window is turned to and rd written, or the run ends with the nesting
+turn-leaves : (n : ℕ) (m : Machine) (b : Bool) (k v rd t : ℕ) → Sound n m → 1 ≤ k → k ≤ 9 → (b ≡ true → v ≤ 6) → t < 2 ^ 32
+    → Leaves (λ rs. Sound n (withRegisters m rs)) (pick b (go (putRegister (turned v (m .registers)) rd t)) (halt (ending k (nestingOf (m .registers)))))
+turn-leaves n m true k v rd t s l h w i = put-sound n (withRegisters m (turned v (m .registers))) rd t (turn-sound n m v s (w refl)) i
+turn-leaves n m false k v rd t s l h w i = (l, h, omega (arith, s .nesting))
+
+window-leaves : (n : ℕ) (m : Machine) (o : WindowOperation) (rd t : ℕ) → Sound n m → t < 2 ^ 32
+    → Leaves (λ rs. Sound n (withRegisters m rs)) (windowOf o rd t (m .registers))
+unfolding windowOf
+window-leaves n m Save rd t s h =
+    let w = nestingOf (m .registers) in
+    turn-leaves n m (ltb w 6) 8 (w + 1) rd t s (omega arith) (omega arith) (λ e. omega (arith, ltb-true w 6 e)) h
+window-leaves n m Restore rd t s h =
+    let w = nestingOf (m .registers) in
+    turn-leaves n m (ltb 0 w) 9 (w - 1) rd t s (omega arith) (omega arith) (λ e. omega (arith, s .nesting)) h
 
 y-lt : (n : ℕ) (m : Machine) → Sound n m → yOf (m .registers) < 2 ^ 32
 unfolding yOf
@@ -273,6 +315,8 @@ effects-sound n db (Arithmetic o cc rd rs1 x) m f s =
       whole = p .whole;
       registers = p .registers;
       zero = p .zero;
+      clear = p .clear;
+      nesting = p .nesting;
       flags = either (λ (f : ℕ). f < 16) cc (k .flags) (m .flags) (b .1) (s .flags);
       area = s .area;
       sized = s .sized;
@@ -280,6 +324,9 @@ effects-sound n db (Arithmetic o cc rd rs1 x) m f s =
 effects-sound n db (Jmpl rd rs1 x) m f s = s
 effects-sound n db (Rdy rd) m f s = put-sound n m rd (yOf (m .registers)) s (y-lt n m s)
 effects-sound n db (Wry t) m f s = y-sound n m _ s (xor-lt 32 _ _ (register-lt n m (t .rs1) s) (value-lt n m (t .operand) s f))
+effects-sound n db (Window o rd rs1 x) m f s =
+    leaves-within (λ rs. Sound n (withRegisters m rs)) (Sound n) (withRegisters m) (λ rs p. p) _
+    (window-leaves n m o rd (addressOf (m .registers) rs1 x) s (address-lt (m .registers) rs1 x))
 effects-sound n db (Ticc cond rs1 x) m f s = leaves-within (λ u. Sound n m) (Sound n) (λ u. m) (λ u p. p) _ (trap-leaves (Sound n m) (m .flags) (m .registers) cond rs1 x s)
 effects-sound n db (Load o rd rs1 x) m f s =
     let w = widthOf o in
@@ -298,6 +345,8 @@ effects-sound n db (Store w rd rs1 x) m f s =
       whole = s .whole;
       registers = s .registers;
       zero = s .zero;
+      clear = s .clear;
+      nesting = s .nesting;
       flags = s .flags;
       area = stored-below w (m .area) (minus t db) (registerOf (m .registers) rd) (s .area);
       sized = stored-length w (m .area) (minus t db) (registerOf (m .registers) rd) ∙ s .sized;

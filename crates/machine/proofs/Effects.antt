@@ -9,11 +9,14 @@ use Rattle.words.specs.Conditions.{holdsOf}
 use Rattle.machine.proofs.Ends.{EndsWell, within-ends, going-of, over-of}
 use Rattle.machine.specs.Registers.{registerOf, putRegister, addressOf}
 use Rattle.machine.specs.DataArea.{widthOf, signOf, sizeOf, putValue, loadedAt, access, loadOf, storeOf}
+use Rattle.machine.specs.Windows.{nestingOf, turned, windowOf}
+use Rattle.words.specs.declared.WindowOperation.{WindowOperation}
+use Rattle.words.specs.declared.WindowOperation.the-variants.{Save, Restore}
 use lib.ListN.{length}
-use lib.Dec.{eqb, leb}
+use lib.Dec.{eqb, leb, ltb}
 use native.Mathlib.Omega.{arith}
 use mathlib.Core.Bool.{Bool, false}
-use Rattle.words.specs.declared.Instruction.the-variants.{Illegal, Call, Sethi, Bicc, Arithmetic, Jmpl, Ticc, Load, Store, Shift, Rdy, Wry}
+use Rattle.words.specs.declared.Instruction.the-variants.{Illegal, Call, Sethi, Bicc, Arithmetic, Jmpl, Ticc, Load, Store, Shift, Rdy, Wry, Window}
 use Rattle.words.specs.declared.Instruction.{Instruction}
 use Rattle.machine.specs.Ends.{live, settle, ending, go, halt, endingOf, isGoing, within, left, Ending, Next, state}
 use Rattle.machine.specs.Effect.{effectOf, Machine, trapOf, withRegisters, withArea, machine}
@@ -22,7 +25,7 @@ use Rattle.words.proofs.Instruction.{the-type as instruction}
 use types.Run.{OneOf, miss}
 use mathlib.Core.List.{List, [], _∷_}
 use mathlib.Core.Path.{_≡_, refl, ap}
-use Prim.Native.Nat.{ℕ, _+_, _%_}
+use Prim.Native.Nat.{ℕ, _+_, _-_, _%_}
 
 -- the numbers are those of the variants, in the order of the enum
 abbrev transfers : List ℕ
@@ -42,12 +45,13 @@ idle db (Store w rd rs1 x) m k = absurd (miss transfers 8 tt k)
 idle db (Shift o rd rs1 x) m k = absurd (miss transfers 9 tt k)
 idle db (Rdy rd) m k = absurd (miss transfers 10 tt k)
 idle db (Wry s) m k = absurd (miss transfers 11 tt k)
+idle db (Window o rd rs1 x) m k = absurd (miss transfers 12 tt k)
 
 -- 01: "Alignment is tested before fit": a misaligned address ends the run with 4, whether the access fits or not
 pub misaligned-first : (w : Width) (db t : ℕ) (area made : List ℕ) → eqb (t % sizeOf w) 0 ≡ false → access w db t area made ≡ halt (ending 4 t)
 misaligned-first w db t area made h = rw h
 
--- a word ends a run with 1, 4 or 5 alone
+-- a word ends a run with 1, 4, 5, 8 or 9 alone
 access-ends : (w : Width) (db t : ℕ) (area made : List ℕ) → EndsWell (access w db t area made)
 access-ends w db t area made =
     either (EndsWell {S = List ℕ}) (eqb (t % sizeOf w) 0) (pick (leb (minus t db + sizeOf w) (length area)) (go made) (halt (ending 5 t)))
@@ -68,6 +72,13 @@ store-ends : (w : Width) (db v t : ℕ) (area : List ℕ) → EndsWell (storeOf 
 unfolding storeOf
 store-ends w db v t area = access-ends w db t area (putValue w area (minus t db) v)
 
+window-ends : (o : WindowOperation) (rd t : ℕ) (rs : List ℕ) → EndsWell (windowOf o rd t rs)
+unfolding windowOf
+window-ends Save rd t rs =
+    either (EndsWell {S = List ℕ}) (ltb (nestingOf rs) 6) (go (putRegister (turned (nestingOf rs + 1) rs) rd t)) (halt (ending 8 (nestingOf rs))) tt (omega arith)
+window-ends Restore rd t rs =
+    either (EndsWell {S = List ℕ}) (ltb 0 (nestingOf rs)) (go (putRegister (turned (nestingOf rs - 1) rs) rd t)) (halt (ending 9 (nestingOf rs))) tt (omega arith)
+
 pub effects-end : (db : ℕ) (i : Instruction) (m : Machine) → EndsWell (effectOf db i m)
 unfolding effectOf
 effects-end db Illegal m = tt
@@ -84,6 +95,7 @@ effects-end db (Store w rd rs1 x) m =
 effects-end db (Shift o rd rs1 x) m = tt
 effects-end db (Rdy rd) m = tt
 effects-end db (Wry s) m = tt
+effects-end db (Window o rd rs1 x) m = within-ends (withRegisters m) _ (window-ends o rd (addressOf (m .registers) rs1 x) (m .registers))
 
 -- the parts of equal states
 same-ending : {S : Type 0} {x y : S} {d e : Ending} → state x d ≡ state y e → d ≡ e

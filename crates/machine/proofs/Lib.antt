@@ -4,5 +4,7 @@ pub mod Products
 pub mod ProductsExact
 pub mod Effects
 pub mod Zero
+pub mod Ring
+pub mod WindowLaws
 pub mod Bounds
 pub mod Opened

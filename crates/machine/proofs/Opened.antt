@@ -3,8 +3,13 @@ use Rattle.machine.specs.Ends.{within, settle}
 use Rattle.machine.specs.Registers.{registerOf, putRegister, yOf, putY, valueOf, addressOf}
 use Rattle.machine.specs.Arithmetic.{top, sumOf, differenceOf, logicOf, modulo64, productOf, outcomeOf, carryOf, arithmeticOf}
 use Rattle.machine.specs.DataArea.{widthOf, signOf, sizeOf, loadOf}
+use Rattle.machine.specs.Windows.{nestingOf, placeOf, putEach, laid, taken, cleared, nested, comeIn, turned, windowOf}
 use Rattle.machine.specs.Effect.{trapOf, effectOf}
 
 unfoldable pub machine-open : Unit {0}
 unfolding top sumOf differenceOf logicOf modulo64 productOf outcomeOf carryOf arithmeticOf registerOf putRegister yOf putY valueOf addressOf within settle trapOf effectOf widthOf signOf sizeOf loadOf
 machine-open = tt
+
+unfoldable pub windows-open : Unit {0}
+unfolding nestingOf placeOf putEach laid taken cleared nested comeIn turned windowOf
+windows-open = tt

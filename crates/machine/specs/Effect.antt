@@ -1,4 +1,4 @@
--- The effect of a word that does not transfer control, on registers, Y, flags and data.
+-- The effect of a word that does not transfer control, on registers, Y, windows, flags and data.
 use Prim.Native.Nat.{ℕ, _*_, _%_, _^_}
 use mathlib.Core.List.{List}
 use lib.Bits.{bitXor}
@@ -6,15 +6,16 @@ use Rattle.numbers.specs.Choice.{pick}
 use Rattle.words.specs.Conditions.{holdsOf}
 use Rattle.words.specs.declared.Operand.{Operand}
 use Rattle.words.specs.declared.Instruction.{Instruction}
-use Rattle.words.specs.declared.Instruction.the-variants.{Illegal, Call, Sethi, Bicc, Arithmetic, Jmpl, Ticc, Load, Store, Shift, Rdy, Wry}
+use Rattle.words.specs.declared.Instruction.the-variants.{Illegal, Call, Sethi, Bicc, Arithmetic, Jmpl, Ticc, Load, Store, Shift, Rdy, Wry, Window}
 use Rattle.machine.specs.Ends.{ending, Next, go, halt, within}
 use Rattle.machine.specs.Registers.{registerOf, putRegister, yOf, putY, valueOf, addressOf}
 use Rattle.machine.specs.Arithmetic.{After, shiftOf, arithmeticOf}
 use Rattle.machine.specs.DataArea.{widthOf, signOf, loadOf, storeOf}
+use Rattle.machine.specs.Windows.{windowOf}
 
 -- what a trail's entry shows beside the address
 pub record Machine : Type 0 where
-  -- registers 0 to 31, then Y
+  -- the file: registers 0 to 31, Y, the nesting and the windows
   pub registers : List ℕ
   -- 8N + 4Z + 2V + C
   pub flags : ℕ
@@ -55,3 +56,4 @@ effectOf db (Shift o rd rs1 x) m = go (withRegisters m (putRegister (m .register
 effectOf db (Rdy rd) m = go (withRegisters m (putRegister (m .registers) rd (yOf (m .registers))))
 -- 02, N4: "Wry writes rs1 xor operand without delay"
 effectOf db (Wry s) m = go (withRegisters m (putY (m .registers) (bitXor (registerOf (m .registers) (s .rs1)) (valueOf (m .registers) (s .operand)))))
+effectOf db (Window o rd rs1 x) m = within (withRegisters m) (windowOf o rd (addressOf (m .registers) rs1 x) (m .registers))

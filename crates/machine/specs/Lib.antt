@@ -4,4 +4,6 @@ pub mod Arithmetic
 pub mod FlagsExact
 pub mod ProductsExact
 pub mod DataArea
+pub mod Windows
+pub mod WindowLaws
 pub mod Effect

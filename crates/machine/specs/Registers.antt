@@ -1,4 +1,5 @@
--- 01, The old core: "32 registers of 32 bits". 02, N4: "The state and each trail entry gain Y". They stand in one file.
+-- 01, The old core: "32 registers of 32 bits". 02, N4: "The state and each trail entry gain Y"; N11: "Trail entries show the nesting and every
+-- window". They stand in one file.
 use Prim.Native.Nat.{ℕ, _%_}
 use mathlib.Core.List.{List}
 use lib.ListN.{getD, set}
@@ -6,9 +7,9 @@ use Rattle.numbers.specs.Number.{plus}
 use Rattle.words.specs.declared.Operand.{Operand}
 use Rattle.words.specs.declared.Operand.the-variants.{Register, Constant}
 
--- how many numbers the file has: registers 0 to 31, then Y
+-- how many numbers the file has: registers 0 to 31, Y, the nesting, and eight times sixteen of windows
 abbrev pub fileSize : ℕ
-fileSize = 33
+fileSize = 162
 
 -- "Register 0 reads and shows as 0": it is 0 in every state that a run starts from, and every write leaves it so (`register-zero` of model)
 unfoldable pub registerOf : List ℕ → ℕ → ℕ

@@ -17,6 +17,7 @@ use crate::registers::put_y;
 use crate::registers::reg;
 use crate::registers::value;
 use crate::registers::y;
+use crate::windows::window;
 use words::Instruction;
 use words::Operand;
 
@@ -44,14 +45,17 @@ pub struct Effect {
     pub end: End,
 }
 
+fn standing(f: Flags, e: End) -> Effect
+    ensures { λ r. ⌜ (r .flags ≡ f) × (r .end ≡ e) ⌝ }
+{
+    Effect { flags: f, end: e }
+}
+
 // The run goes on.
 fn going(f: Flags) -> Effect
     ensures { λ r. ⌜ (r .flags ≡ f) × (r .end ≡ Going) ⌝ }
 {
-    Effect {
-        flags: f,
-        end: End::Going,
-    }
+    standing(f, End::Going)
 }
 
 // What a word does that does not transfer control; the others do nothing here.
@@ -64,18 +68,9 @@ pub fn perform(i: Instruction, db: u32, regs: &mut File, f: Flags, area: &mut [u
             going(f)
         }
         Instruction::Arithmetic(o, cc, rd, rs1, x) => going(operate(f, regs, o, cc, rd, rs1, x)),
-        Instruction::Ticc(cond, rs1, x) => {
-            let e = trap(f, regs, cond, rs1, x);
-            Effect { flags: f, end: e }
-        }
-        Instruction::Load(o, rd, rs1, x) => {
-            let e = load(o, db, regs, area, rd, rs1, x);
-            Effect { flags: f, end: e }
-        }
-        Instruction::Store(w, rd, rs1, x) => {
-            let e = store(w, db, regs, area, rd, rs1, x);
-            Effect { flags: f, end: e }
-        }
+        Instruction::Ticc(cond, rs1, x) => standing(f, trap(f, regs, cond, rs1, x)),
+        Instruction::Load(o, rd, rs1, x) => standing(f, load(o, db, regs, area, rd, rs1, x)),
+        Instruction::Store(w, rd, rs1, x) => standing(f, store(w, db, regs, area, rd, rs1, x)),
         Instruction::Shift(o, rd, rs1, x) => {
             shift(regs, o, rd, rs1, x);
             going(f)
@@ -89,6 +84,7 @@ pub fn perform(i: Instruction, db: u32, regs: &mut File, f: Flags, area: &mut [u
             put_y(regs, reg(regs, s.rs1) ^ value(regs, x));
             going(f)
         }
+        Instruction::Window(o, rd, rs1, x) => standing(f, window(regs, o, rd, rs1, x)),
         _ => going(f),
     }
 }

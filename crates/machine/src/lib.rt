@@ -1,4 +1,4 @@
-// What both cores share: registers and Y, flags, the data area, how a run ended, and the words that do not transfer control.
+// What both cores share: registers, Y and register windows, flags, the data area, how a run ended, and the words that do not transfer control.
 ghost use mathlib.Core.Path.{_≡_};
 ghost use Prim.Native.Nat.{_<_};
 ghost use Rattle.numbers.specs.Number.{plus};
@@ -9,6 +9,7 @@ pub mod arithmetic;
 pub mod data_area;
 pub mod effect;
 pub mod registers;
+pub mod windows;
 
 // An address of the source program. It is never read as a record number.
 pub struct SourcePc(pub u32);
@@ -45,6 +46,9 @@ pub enum End {
     // ends of the new core alone
     NoPlace(SourcePc),
     BadRecord(TargetPc),
+    // the nesting
+    TooManySaves(u32),
+    TooManyRestores(u32),
 }
 
 pub fn is_going(e: End) -> bool
@@ -87,10 +91,12 @@ pub fn numbers_of(e: End) -> Ended
             end: 7,
             number: r.0,
         },
+        End::TooManySaves(w) => Ended { end: 8, number: w },
+        End::TooManyRestores(w) => Ended { end: 9, number: w },
     }
 }
 
-// The end of two numbers in a state's bytes: any number but 1 to 7 counts as still going.
+// The end of two numbers in a state's bytes: any number but 1 to 9 counts as still going.
 pub fn end_from(end: u32, v: u32) -> End
     ensures { λ r. ⌜ endingOf r ≡ endingFrom end v ⌝ }
 {
@@ -102,6 +108,8 @@ pub fn end_from(end: u32, v: u32) -> End
         5 => End::Unfit(v),
         6 => End::NoPlace(SourcePc(v)),
         7 => End::BadRecord(TargetPc(v)),
+        8 => End::TooManySaves(v),
+        9 => End::TooManyRestores(v),
         _ => End::Going,
     }
 }

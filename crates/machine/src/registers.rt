@@ -1,10 +1,11 @@
-// The register file: the 32 registers, and Y behind them. Register 0 holds 0 at the start of a run, and each write leaves it so.
+// The register file: the 32 registers, and behind them Y, the nesting and the windows. Register 0 holds 0 at the start of a run, and each write
+// leaves it so.
 ghost use mathlib.Core.Path.{_≡_};
 ghost use Rattle.machine.specs.Registers.{registerOf, putRegister, yOf, putY, valueOf, addressOf};
 use words::Operand;
 
-// How many numbers the file has, and the file: registers 0 to 31, then Y.
-pub const FILE: usize = 33;
+// How many numbers the file has, and the file: registers 0 to 31, Y, the nesting, eight times sixteen numbers of windows.
+pub const FILE: usize = 162;
 
 pub type File = [u32; FILE];
 

@@ -12,6 +12,7 @@ use Rattle.numbers.specs.Number.{Below, numberAt}
 use Rattle.numbers.proofs.Bounds.{number-lt}
 use Rattle.words.specs.Conditions.{bitOf}
 use Rattle.machine.specs.Ends.{Ending, ending, endingFrom, state}
+use Rattle.machine.specs.Windows.{laid}
 use Rattle.machine.specs.Effect.{Machine, machine}
 use Rattle.model.specs.Run.{dataOf}
 use Rattle.model.specs.OldCore.{Old, old, oldNext}
@@ -40,10 +41,10 @@ state-part P s (suc k) v h = h .0
 from-sound : {S : Type 0} (P : S → Type 0) (s : S) (k v : ℕ) → v < 2 ^ 32 → P s → SoundState P (state s (endingFrom k v))
 unfolding endingFrom
 from-sound P s zero v l p = (p, refl)
-from-sound P s (suc k) v l p = rw (ne-eqb (suc k) 0 (λ e. omega arith)) (go (leb (suc k) 7) refl)
+from-sound P s (suc k) v l p = rw (ne-eqb (suc k) 0 (λ e. omega arith)) (go (leb (suc k) 9) refl)
   where
-    go : (b : Bool) → leb (suc k) 7 ≡ b → SoundState P (state s (pick b (ending (suc k) v) (ending 0 0)))
-    go true e = (p, omega (arith, leb-true (suc k) 7 e))
+    go : (b : Bool) → leb (suc k) 9 ≡ b → SoundState P (state s (pick b (ending (suc k) v) (ending 0 0)))
+    go true e = (p, omega (arith, leb-true (suc k) 9 e))
     go false e = (p, refl)
 
 -- ---------------------------------------------------------------- the old core
@@ -76,7 +77,7 @@ module _ (n : ℕ) (m : Machine) (pc npc : ℕ) (annul : Bool) (k v : ℕ) (h : 
   unfolding oldBytes
   old-annul = tail-back n m (oldTail pc npc annul k v) (oldPart .0) old-below 2 140 (omega arith) (omega arith)
 
-  pub old-shows : machine (fileIn oldBehind (oldBytes (state (old m pc npc annul) (ending k v)))) (numberAt (oldBytes (state (old m pc npc annul) (ending k v))) 128) (m .area) ≡ m
+  pub old-shows : machine (fileIn oldBehind (oldBytes (state (old m pc npc annul) (ending k v)))) (numberAt (oldBytes (state (old m pc npc annul) (ending k v))) 128) (m .area) ≡ machine (laid (m .registers)) (m .flags) (m .area)
   unfolding oldBytes
   old-shows = shown-back n m (oldTail pc npc annul k v) (oldPart .0) old-below oldBehind (omega arith)
 
@@ -149,7 +150,7 @@ module _ (n : ℕ) (m : Machine) (r g : ℕ) (k v : ℕ) (h : SoundState (SoundN
   unfolding newBytes
   new-held = tail-back n m (newTail r g k v) (newPart .0) new-below 1 136 (omega arith) (omega arith)
 
-  pub new-shows : machine (fileIn newBehind (newBytes (state (new m r g) (ending k v)))) (numberAt (newBytes (state (new m r g) (ending k v))) 128) (m .area) ≡ m
+  pub new-shows : machine (fileIn newBehind (newBytes (state (new m r g) (ending k v)))) (numberAt (newBytes (state (new m r g) (ending k v))) 128) (m .area) ≡ machine (laid (m .registers)) (m .flags) (m .area)
   unfolding newBytes
   new-shows = shown-back n m (newTail r g k v) (newPart .0) new-below newBehind (omega arith)
 

@@ -7,9 +7,9 @@ use Rattle.numbers.proofs.Choice.{both}
 use Rattle.numbers.specs.Number.{plus, minus, signed, numberAt, bytesOf, numbersOf, upTo}
 use Rattle.words.specs.Reader.{bits, bitSet, operandOf, format0Of, format2Of, format3Of, setFrom, registerStrays, rdyStrays, wryStrays, unusedSet, strictly, byFormat, instructionOf, isUnimp}
 use Rattle.words.specs.Conditions.{rows, bitAt, holdsOf, bitOf, nzvcOf}
-use Rattle.machine.proofs.Opened.{machine-open}
-use Rattle.model.specs.Cases.{over, start, shown, product, endOf, ended, newEnded, stepAt, cases, noCase, Row, bytesBack, given, answered, listedAt, listed, entriesTold, told, begins, beginsWithY, oldCut, oldTold, newCut, newTold, yTold}
-use Rattle.model.specs.Cores.{shownOf, oldMark, oldShown, naming, newMark, newShown, goesBy, newByHeld, newTrailAt}
+use Rattle.machine.proofs.Opened.{machine-open, windows-open}
+use Rattle.model.specs.Cases.{over, start, shown, product, endOf, ended, newEnded, stepAt, cases, noCase, Row, bytesBack, given, answered, listedAt, listed, entriesTold, told, begins, beginsWithY, anyWindows, oldCut, oldTold, newCut, newTold, yTold, windowed, windowsTold, fileTold}
+use Rattle.model.specs.Cores.{shownOf, begunWith, oldMark, oldShown, naming, newMark, newShown, goesBy, newByHeld, newTrailAt}
 use Rattle.model.specs.NewCore.{following, fit, doesWord, holds, chooses, seek, lost, goes, stops, does, newNext, begunAt, newBegun}
 use Rattle.model.specs.Run.{step, run, zeroed}
 use Rattle.model.specs.StateBytes.{fileIn, machineIn, oldBytes, oldBegins, newBytes, newAfter, newBegins}
@@ -76,14 +76,14 @@ new-open = tt
 
 -- trails
 trails-open : Unit {0}
-unfolding shownOf oldMark oldShown naming newMark newShown goesBy newByHeld newTrailAt
+unfolding shownOf begunWith oldMark oldShown naming newMark newShown goesBy newByHeld newTrailAt
 trails-open = tt
 
 -- what a row shows
 rows-open : Unit {0}
-unfolding cases newEnded stepAt bytesBack given answered listedAt listed endOf entriesTold told begins beginsWithY oldCut oldTold newCut newTold yTold over start shown product ended
+unfolding cases newEnded stepAt bytesBack given answered listedAt listed endOf entriesTold told begins beginsWithY anyWindows oldCut oldTold newCut newTold yTold windowed windowsTold fileTold over start shown product ended
 rows-open = tt
 
 pub cases-hold : (i : ℕ) → i < length cases → getD cases i noCase .got ≡ getD cases i noCase .want
-unfolding words-open machine-open old-open places-open records-open new-open trails-open rows-open
+unfolding words-open machine-open windows-open old-open places-open records-open new-open trails-open rows-open
 cases-hold = each-row cases refl

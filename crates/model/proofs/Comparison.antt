@@ -15,7 +15,7 @@ use Rattle.model.specs.OldCore.{Old, old, follows, oldNext}
 use Rattle.model.specs.Places.{plain, placeAt, member}
 use Rattle.model.specs.Records.{rowsOf, recordsOf, rowsIn, recordsIn}
 use Rattle.model.specs.Trails.{Trail, cut, spent, shut, at, trail, Entry, entry, entries, closing, opening, lastAt, later, gaps, OneOrTwo, Unspent}
-use Rattle.model.specs.Cores.{shownOf, oldMark, oldShown, oldOver, newShown}
+use Rattle.model.specs.Cores.{shownOf, begunWith, oldMark, oldShown, oldOver, newShown}
 use Rattle.model.proofs.Simulation.{Same, both-cut, both-shut, both-at, no-place, Closed, sim}
 use Rattle.model.proofs.NewSide.{newCore, toNew, new-mark}
 
@@ -174,11 +174,12 @@ module _ (image : List ℕ) (base db : ℕ) where
           → Same 0 (oldTrail f k a m) (newTrail g k a m)
       from-one f g k a m lf lg h = sim image base db ps records places er ec C few k f g 0 0 lf lg 0 (omega arith) (omega arith) (plain a) 0 m h refl
 
-      pub from-two : (f g k a b : ℕ) (m n : Machine) → 2 * k + 1 ≤ f → 2 * k + 1 ≤ g → 1 ≤ k → shownOf m ≡ m → shownOf n ≡ n → member ps (plain b) ≡ true
+      pub from-two : (f g k a b : ℕ) (m n : Machine) → 2 * k + 1 ≤ f → 2 * k + 1 ≤ g → 1 ≤ k → begunWith (shownOf m) ≡ m → begunWith (shownOf n) ≡ n → member ps (plain b) ≡ true
           → opening (oldTrail f k a m) ≡ opening (newTrail g k b n) → Same 0 (oldTrail f k a m) (newTrail g k b n)
       from-two f g k a b m n lf lg lk dm dn h e =
           let z : some (entry a (shownOf m)) ≡ some (entry b (shownOf n)) =
           sym (ap opening (old-first f k a m (omega arith) lk .1)) ∙ e ∙ ap opening (new-first g k b n (omega arith) lk h .1) in
           let p : a ≡ b = cc in
-          let q : m ≡ n = cc in
+          let r : shownOf m ≡ shownOf n = cc in
+          let q : m ≡ n = sym dm ∙ ap begunWith r ∙ dn in
           rw (p, q) (from-one f g k b n lf lg h)

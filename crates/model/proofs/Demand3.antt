@@ -1,19 +1,20 @@
 -- Demand 3.
-use Prim.Native.Nat.{ℕ, suc, _+_, _-_, _*_, _^_, _≤_, _<_}
+use Prim.Native.Nat.{ℕ, suc, _+_, _-_, _*_, _^_, _≤_, _<_, min}
 use native.Mathlib.Nat.{zero-add}
 use native.Mathlib.Omega.{arith}
 use mathlib.Core.Path.{_≡_, refl, sym, ap, _∙_}
 use mathlib.Core.Logic.{_↔_}
 use mathlib.Core.Bool.{Bool, true, false}
-use mathlib.Core.List.{List, _∷_}
+use mathlib.Core.List.{List}
 use mathlib.Core.Option.{none, some}
 use lib.ListN.{length, getD, take}
-use Rattle.numbers.specs.Number.{Below, plus, upTo, bytesOf}
+use Rattle.numbers.specs.Number.{Below, plus, bytesOf}
 use Rattle.numbers.proofs.Bounds.{below-bytes}
-use Rattle.numbers.proofs.Lists.{length-up}
 use Rattle.machine.specs.Ends.{Ending, ending, halt, State, state, live, settle}
-use Rattle.machine.specs.Registers.{fileSize, yOf}
+use Rattle.machine.specs.Registers.{yOf}
+use Rattle.machine.specs.Windows.{nestingOf, placeOf, laid as laidDown, comeIn}
 use Rattle.machine.specs.Effect.{Machine, machine}
+use Rattle.machine.proofs.Ring.{laid-low, laid-free, laid-own, laid-length, laid-nesting, in-low, in-nesting, in-free}
 use Rattle.model.specs.declared.Place.{Place}
 use Rattle.model.specs.declared.Answer.the-variants.{Accepted}
 use Rattle.model.specs.Run.{step, run}
@@ -24,9 +25,9 @@ use Rattle.model.specs.Records.{first, rowsOf, recordsOf, rowsIn, record
 use Rattle.model.specs.NewCore.{New, new, seek, begunAt, newBegun}
 use Rattle.model.specs.Translation.{Handed, translation, placeRoom}
 use Rattle.model.specs.Trails.{Core, Trail, at, trail, entry, closing, opening, Unspent, stood}
-use Rattle.model.specs.Cores.{shownOf, Start, startMachine, oldOver, newOver, oldBegin, newBegin, stepsFor, trailOf, newTrailAt}
+use Rattle.model.specs.Cores.{wholeFile, shownOf, Start, startMachine, oldOver, newOver, oldBegin, newBegin, stepsFor, trailOf, newTrailAt}
 use Rattle.model.specs.Demand3.{Placed, Begins, Complete, Strays, Claim, Holds, Demand3}
-use Rattle.model.proofs.Shown.{shown-again, get-other}
+use Rattle.model.proofs.Shown.{whole-length, begun-held, begun-shows, begun-again, get-other}
 use Rattle.model.proofs.Hop.{Over}
 use Rattle.model.proofs.Trails.{steady-on, Cut, cuts, run-suc, traced-so, Ended, ends-so, closes-so}
 use Rattle.model.proofs.OldSide.{old-over}
@@ -40,19 +41,36 @@ use Rattle.model.proofs.Packed.{table-back, records-back}
 use Rattle.model.proofs.Accepted.{words-lt, numbers-lt, entries-aligned, Took, took}
 
 -- ---------------------------------------------------------------- the first entry is the start
+same-nesting : (rs : List ℕ) → nestingOf (wholeFile rs) ≡ nestingOf rs
+unfolding nestingOf
+same-nesting rs = get-other rs 33 (omega arith) (omega arith)
+
 begins : (x : Start) (t rest : Trail) → t ≡ at 0 (x .address) (shownOf (startMachine x)) rest → Begins x t
-unfolding shownOf yOf
+unfolding yOf
 begins x t rest e =
+    let s : List ℕ = wholeFile (x .registers) in
+    let rs : List ℕ = comeIn s in
+    let h = begun-held (x .registers) in
+    let low : (i : ℕ) → 1 ≤ i → i < 33 → getD (laidDown rs) i 0 ≡ getD (x .registers) i 0 =
+    λ i l k. laid-low rs i (omega arith) ∙ in-low s i k ∙ get-other (x .registers) i l (omega arith) in
+    let n : nestingOf rs ≡ min (nestingOf s) 6 = in-nesting s (whole-length (x .registers)) in
     record {
-      registers = 0 ∷ upTo (λ i. getD (x .registers) (i + 1) 0) (fileSize - 1);
+      registers = laidDown rs;
       flags = x .flags;
       area = take 65536 (x .area);
       rest = rest;
-      first = e ∙ ap (λ (m : Machine). at 0 (x .address) m rest) (shown-again (machine (x .registers) (x .flags) (x .area)));
-      whole = ap suc (length-up (λ i. getD (x .registers) (i + 1) 0) (fileSize - 1));
-      register-0 = refl;
-      others = λ i l h. get-other (x .registers) i l (omega arith);
-      same-y = get-other (x .registers) 32 (omega arith) (omega arith);
+      first = e ∙ ap (λ (m : Machine). at 0 (x .address) m rest) (begun-shows (machine (x .registers) (x .flags) (x .area)));
+      whole = laid-length rs ∙ h .whole;
+      register-0 = laid-low rs 0 (omega arith) ∙ h .zero;
+      others = λ i l k. low i l (omega arith);
+      same-y = low 32 (omega arith) (omega arith);
+      nesting = laid-nesting rs ∙ n ∙ ap (λ w. min w 6) (same-nesting (x .registers));
+      current = λ r l k.
+          let q : 8 + (r - 8) ≡ r = omega arith in
+          rw (laid-nesting rs) (rw q at (laid-own rs (h .whole) (r - 8) (omega arith)) ∙ sym (laid-low rs r (omega arith)));
+      windows = λ i l k f.
+          let g : (j : ℕ) → j < 24 → i ≡ placeOf (nestingOf rs) (8 + j) → ⊥ = λ j m z. f (8 + j) (omega arith) (omega arith) (rw (laid-nesting rs) z) in
+          laid-free rs i g ∙ in-free s i l (rw n at g) ∙ get-other (x .registers) i (omega arith) k;
       same-flags = refl;
       same-bytes = refl;
     }
@@ -124,7 +142,7 @@ module _ (image : List ℕ) (base db : ℕ) (es : List ℕ) (cap : ℕ) (ps : Li
     same : opening t ≡ opening u → Same 0 t u
     same e =
         from-two image base db ps records places er ec C few (stepsFor k) (stepsFor k) k (x .address) (y .address) (startMachine x) (startMachine y)
-        (omega arith) (omega arith) lk (shown-again (machine (x .registers) (x .flags) (x .area))) (shown-again (machine (y .registers) (y .flags) (y .area)))
+        (omega arith) (omega arith) lk (begun-again (machine (x .registers) (x .flags) (x .area))) (begun-again (machine (y .registers) (y .flags) (y .area)))
         (in-list (y .address) hy) e
 
     u-unspent : Unspent u

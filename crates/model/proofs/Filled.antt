@@ -1,5 +1,5 @@
 -- A state's bytes, read into a file and written from one.
-use Prim.Native.Nat.{ℕ, _+_, _-_, _*_, _≤_}
+use Prim.Native.Nat.{ℕ, _+_, _-_, _*_}
 use native.Mathlib.Omega.{arith}
 use mathlib.Core.Path.{_≡_, refl, _∙_}
 use mathlib.Core.List.{List, [], _++_, append-nil, append-assoc}
@@ -10,24 +10,28 @@ use Rattle.numbers.proofs.Number.{fill-next, length-numbers}
 use Rattle.machine.specs.Registers.{fileSize}
 use Rattle.model.specs.StateBytes.{fileIn}
 
--- the registers are read over the first part of an array, and what is behind them over the rest, t, of it
+-- the registers are read over the first part of a file, and what is behind them over the rest, t, of it
 module _ (bytes t p : List ℕ) (at : ℕ) (h : length t ≡ fileSize - 32) (e : p ≡ numbersOf bytes 32) where
   front-length : length p ≡ 32
   front-length = rw e (length-numbers bytes 32)
 
-  pub whole-length : fileSize ≤ length (p ++ t)
-  whole-length = omega (arith, length-append p t, front-length)
+  pub behind-count : length (p ++ t) - 32 ≡ fileSize - 32
+  behind-count = omega (arith, length-append p t, front-length)
 
-  pub file-read : (q : List ℕ) → q ≡ numbersOf (take (length bytes - at) (drop at bytes)) (length (take (fileSize - 32) (drop 32 (p ++ t))))
+  counted : (q : List ℕ) → q ≡ numbersOf (take (length bytes - at) (drop at bytes)) (length (take (fileSize - 32) (drop 32 (p ++ t))))
       → take 32 (p ++ t) ++ (q ++ drop (fileSize - 32) (drop 32 (p ++ t))) ≡ fileIn at bytes
   unfolding fileIn
-  file-read q g =
+  counted q g =
       let d : drop 32 (p ++ t) ≡ t = drop-at p t 32 front-length in
       let z : drop (fileSize - 32) t ≡ [] = drop-of-length-le t {i = fileSize - 32} (omega arith) in
       let all : take (length bytes - at) (drop at bytes) ≡ drop at bytes = take-all (length bytes - at) (drop at bytes) (omega (arith, length-drop at bytes)) in
       let n : length (take (fileSize - 32) (drop 32 (p ++ t))) ≡ fileSize - 32 = rw (d, take-all (fileSize - 32) t (omega arith)) h in
       let k : q ≡ numbersOf (drop at bytes) (fileSize - 32) = rw (n, all) at g in
       rw (take-at p t 32 front-length, d, z, append-nil q, k, e)
+
+  pub file-read : (n : ℕ) → n ≡ fileSize - 32 → (q : List ℕ) → q ≡ numbersOf (take (length bytes - at) (drop at bytes)) (length (take n (drop 32 (p ++ t))))
+      → take 32 (p ++ t) ++ (q ++ drop n (drop 32 (p ++ t))) ≡ fileIn at bytes
+  file-read n f q g = rw f (counted q (rw f at g))
 
 -- three lists of numbers, one behind the other, fill the bytes
 pub fill-state : (s s1 s2 s3 front between behind : List ℕ) (n : ℕ) → length front ≡ 32 → n ≡ 128 + 4 * length between → length s ≡ n + 4 * length behind

@@ -30,7 +30,7 @@ use Rattle.model.specs.Interface.{Bytes, bytes, answered, called, bytesS
 use Rattle.model.proofs.Hop.{Over}
 use Rattle.model.proofs.Bounds.{SoundOld, SoundNew, found-lt}
 use Rattle.model.proofs.RoundTrip.{data-back, machine-sound}
-use Rattle.model.proofs.Shown.{shown-sound, start-shown}
+use Rattle.model.proofs.Shown.{shown-sound, start-begun}
 use Rattle.model.proofs.Related.{Beside, Related, trail-same, strays-on, flipped, flip-beside, holds-on}
 use Rattle.model.proofs.Coded.{runs-add, Holding, called-step}
 use Rattle.model.proofs.Calls.{oldArea, old-coded, old-sound, old-pc, old-annul, old-shows, newArea, new-coded, new-sound, new-record, new-held, new-shows}
@@ -91,7 +91,7 @@ module _ (image : List ℕ) (base db : ℕ) (l : List ℕ) where
       let m : Machine = machineIn oldBehind bs (dataOf l) in (
         old m p (plus p 4) false,
         (
-          rw (start-shown oldBehind bs (numberAt bs 128 % 16) l),
+          rw (start-begun oldBehind bs (numberAt bs 128 % 16) l),
           (
             ap (λ (a : List ℕ). bytes (oldBytes (live (old m p (plus p 4) false))) a) (sym (take-append-drop 65536 l)),
             (machine-sound oldBehind bs l b d, lp, plus-lt p 4),
@@ -138,7 +138,7 @@ module _ (records places : List ℕ) (base size db : ℕ) (br : Below 256 record
       rw e (
         new m f 0,
         (
-          rw (start-shown newBehind bs (numberAt bs 128 % 16) l),
+          rw (start-begun newBehind bs (numberAt bs 128 % 16) l),
           (ap (λ (a : List ℕ). bytes (newBytes (live (new m f 0))) a) (sym (take-append-drop 65536 l)), (machine-sound newBehind bs l b d, lf, omega arith)),
         ),
       )

@@ -15,8 +15,10 @@ use Rattle.numbers.proofs.Bounds.{below-append, below-set, below-take, below-dr
 use Rattle.words.specs.Conditions.{bitOf}
 use Rattle.machine.specs.Ends.{ending, endingFrom}
 use Rattle.machine.specs.Registers.{fileSize}
+use Rattle.machine.specs.Windows.{laid}
 use Rattle.machine.specs.Effect.{Machine, machine}
-use Rattle.machine.proofs.Bounds.{Sound, SoundEnd}
+use Rattle.machine.proofs.Bounds.{Sound, SoundEnd, held}
+use Rattle.machine.proofs.Ring.{laid-low, laid-length, laid-below, shown-in, in-below, held-in}
 use Rattle.machine.proofs.Zero.{Zero, set-zero}
 use Rattle.model.specs.Run.{zeroed, dataOf, beyond}
 use Rattle.model.specs.OldState.{isSet}
@@ -60,23 +62,23 @@ module _ (n : ℕ) (m : Machine) (between : List ℕ) (s : Sound n m) (b : Below
   ns = stateNumbers m between
 
   abbrev front : List ℕ
-  front = take 32 (m .registers)
+  front = take 32 (laid (m .registers))
 
   abbrev behind : List ℕ
-  behind = drop 32 (m .registers)
+  behind = drop 32 (laid (m .registers))
 
   front-length : length front ≡ 32
-  front-length = length-take-le 32 (m .registers) (omega (arith, s .whole))
+  front-length = length-take-le 32 (laid (m .registers)) (omega (arith, laid-length (m .registers), s .whole))
 
   behind-length : length behind ≡ fileSize - 32
-  behind-length = length-drop 32 (m .registers) ∙ omega (arith, s .whole)
+  behind-length = length-drop 32 (laid (m .registers)) ∙ omega (arith, laid-length (m .registers), s .whole)
 
   behind-below : Below (2 ^ 32) behind
-  behind-below = below-drop (2 ^ 32) 32 (m .registers) (s .registers)
+  behind-below = below-drop (2 ^ 32) 32 (laid (m .registers)) (laid-below (m .registers) (s .registers))
 
   all-below : Below (2 ^ 32) ns
   all-below =
-      below-append (2 ^ 32) front (m .flags ∷ (between ++ behind)) (below-take (2 ^ 32) 32 (m .registers) (s .registers))
+      below-append (2 ^ 32) front (m .flags ∷ (between ++ behind)) (below-take (2 ^ 32) 32 (laid (m .registers)) (laid-below (m .registers) (s .registers)))
       (omega (arith, s .flags), below-append (2 ^ 32) between behind b behind-below)
 
   all-length : length ns ≡ 33 + length between + length behind
@@ -103,21 +105,22 @@ module _ (n : ℕ) (m : Machine) (between : List ℕ) (s : Sound n m) (b : Below
       let l : length (front ++ (m .flags ∷ between)) ≡ 33 + length between = omega (arith, length-append front (m .flags ∷ between), front-length) in
       rw (f, drop-bytes (33 + length between) ns, ← append-assoc front (m .flags ∷ between) behind, drop-at (front ++ (m .flags ∷ between)) behind (33 + length between) l)
 
-  file-back : (at : ℕ) → at ≡ 132 + 4 * length between → fileIn at (bytesOf ns) ≡ m .registers
+  file-back : (at : ℕ) → at ≡ 132 + 4 * length between → fileIn at (bytesOf ns) ≡ laid (m .registers)
   unfolding fileIn
   file-back at e =
       let f : numbersOf (bytesOf ns) 32 ≡ front = rw front-length at (numbers-front front (m .flags ∷ (between ++ behind)) all-below) in
       let g : numbersOf (bytesOf behind) (fileSize - 32) ≡ behind =
       rw (append-nil behind, behind-length) at (numbers-front behind [] (rw (append-nil behind) behind-below)) in
-      rw (f, behind-bytes at e, g, take-append-drop 32 (m .registers))
+      rw (f, behind-bytes at e, g, take-append-drop 32 (laid (m .registers)))
 
   pub machine-back : (at : ℕ) → at ≡ 132 + 4 * length between → machineIn at (bytesOf ns) (m .area) ≡ m
   unfolding machineIn zeroed
   machine-back at e =
       let f : m .flags % 16 ≡ m .flags = mod-eq-of-lt (s .flags) in
-      rw (file-back at e, set-same (m .registers) (s .zero), flags-back, f)
+      let z : getD (laid (m .registers)) 0 0 ≡ 0 = laid-low (m .registers) 0 (omega arith) ∙ s .zero in
+      rw (file-back at e, set-same (laid (m .registers)) z, shown-in (m .registers) (held n m s), flags-back, f)
 
-  pub shown-back : (at : ℕ) → at ≡ 132 + 4 * length between → machine (fileIn at (bytesOf ns)) (numberAt (bytesOf ns) 128) (m .area) ≡ m
+  pub shown-back : (at : ℕ) → at ≡ 132 + 4 * length between → machine (fileIn at (bytesOf ns)) (numberAt (bytesOf ns) 128) (m .area) ≡ machine (laid (m .registers)) (m .flags) (m .area)
   shown-back at e = rw (file-back at e, flags-back)
 
 -- ---------------------------------------------------------------- annul and the end
@@ -128,7 +131,7 @@ annul-back false = refl
 
 pub end-back : (k v : ℕ) → SoundEnd (ending (suc k) v) → endingFrom (suc k) v ≡ ending (suc k) v
 unfolding endingFrom
-end-back k v s = rw (ne-eqb (suc k) 0 (λ e. omega arith), le-leb (suc k) 7 (s .1))
+end-back k v s = rw (ne-eqb (suc k) 0 (λ e. omega arith), le-leb (suc k) 9 (s .1))
 
 -- ---------------------------------------------------------------- any bytes are a sound state's
 file-below : (at : ℕ) (bytes : List ℕ) → Below 256 bytes → Below (2 ^ 32) (fileIn at bytes)
@@ -142,10 +145,13 @@ pub machine-sound : (at : ℕ) (bytes area : List ℕ) → Below 256 bytes → B
 unfolding machineIn zeroed
 machine-sound at bytes area b d =
     let rs = fileIn at bytes in
+    let h = held-in (set rs 0 0) (length-set rs 0 0 ∙ length-file at bytes) (set-zero rs) in
     record {
-      whole = length-set rs 0 0 ∙ length-file at bytes;
-      registers = below-set (2 ^ 32) rs 0 0 (omega arith) (file-below at bytes b);
-      zero = set-zero rs;
+      whole = h .whole;
+      registers = in-below (set rs 0 0) (below-set (2 ^ 32) rs 0 0 (omega arith) (file-below at bytes b));
+      zero = h .zero;
+      clear = h .clear;
+      nesting = h .nesting;
       flags = omega arith;
       area = below-take 256 65536 area d;
       sized = refl;

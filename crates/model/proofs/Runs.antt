@@ -1,5 +1,5 @@
 -- Laws of runs: a run continued from here is the run from the start.
-use Rattle.machine.specs.declared.End.the-variants.{Going, TrapTaken, Outside, IllegalWord, Misaligned, Unfit, NoPlace, BadRecord}
+use Rattle.machine.specs.declared.End.the-variants.{Going, TrapTaken, Outside, IllegalWord, Misaligned, Unfit, NoPlace, BadRecord, TooManySaves, TooManyRestores}
 use Rattle.machine.specs.declared.End.{End}
 use borrow.Author.Tests.{leb-true, leb-false}
 use lib.Seq.{take-all, take-at, drop-at, length-take-le}
@@ -61,6 +61,8 @@ ended-stays next s (Misaligned v) h = refl
 ended-stays next s (Unfit v) h = refl
 ended-stays next s (NoPlace v) h = refl
 ended-stays next s (BadRecord v) h = refl
+ended-stays next s (TooManySaves v) h = refl
+ended-stays next s (TooManyRestores v) h = refl
 
 -- and so the rest of its run
 pub run-ended : {S : Type 0} (next : S → Next S) (n : ℕ) (s : S) (e : End) (z : State S) → isGoing e ≡ false → run next n (left s e) ≡ z → left s e ≡ z

@@ -1,10 +1,11 @@
 -- 01, Cases: those to be proved, as one table of numbers; case 0 has other readings of 01. What a row shows is computed from the definitions.
 use Prim.Native.Nat.{ℕ, _+_, _*_}
-use mathlib.Core.List.{List, [], _∷_, _++_}
+use mathlib.Core.List.{List, [], _∷_, _++_, map}
 use lib.ListN.{length, getD, set, replicate}
 use Rattle.numbers.specs.Number.{bytesOf, upTo}
 use Rattle.machine.specs.Ends.{Ending, ending, Next, State, state, live}
 use Rattle.machine.specs.Registers.{fileSize, yOf}
+use Rattle.machine.specs.Windows.{nestingOf}
 use Rattle.machine.specs.Effect.{machine}
 use Rattle.model.specs.Run.{run}
 use Rattle.model.specs.OldCore.{Old, old, oldNext, oldBegun}
@@ -37,6 +38,10 @@ shown i (state (old m pc npc annul) e) = getD (m .registers) i 0 ∷ m .flags �
 -- Y, then the same
 unfoldable pub product : ℕ → State Old → List ℕ
 product i (state (old m pc npc annul) e) = yOf (m .registers) ∷ getD (m .registers) i 0 ∷ m .flags ∷ []
+
+-- the nesting, the flags, and some registers
+unfoldable pub windowed : List ℕ → State Old → List ℕ
+windowed is (state (old m pc npc annul) e) = nestingOf (m .registers) ∷ m .flags ∷ map (λ i. getD (m .registers) i 0) is
 
 unfoldable pub endOf : Ending → List ℕ
 endOf (ending n v) = n ∷ v ∷ []
@@ -91,6 +96,10 @@ begins a v flags = record { address = a; registers = 0 ∷ v ∷ []; flags = fla
 unfoldable pub beginsWithY : ℕ → ℕ → Start
 beginsWithY a y = record { address = a; registers = set (replicate fileSize 0) 32 y; flags = 0; area = [] }
 
+-- begun at 0 with a file of 1, 2, 3, ..: the nesting is above 6
+unfoldable pub anyWindows : Start
+anyWindows = record { address = 0; registers = upTo (λ i. i + 1) fileSize; flags = 0; area = [] }
+
 -- the old core's trail over an image of words at base 0, cut at k entries
 unfoldable pub oldCut : List ℕ → Start → ℕ → Trail
 oldCut words x k = trailOf (oldOver (bytesOf words) 0 0) k (oldBegin x)
@@ -113,7 +122,20 @@ unfoldable pub yTold : List Entry → List ℕ
 yTold [] = []
 yTold (entry a m ∷ es) = yOf (m .registers) ∷ yTold es
 
+-- what each shows of the nesting, of local 0 of window 0, in 0 of window 1 and local 0 of window 1; and the whole file
+unfoldable pub windowsTold : List Entry → List ℕ
+windowsTold [] = []
+windowsTold (entry a m ∷ es) = nestingOf (m .registers) ∷ getD (m .registers) 42 0 ∷ getD (m .registers) 50 0 ∷ getD (m .registers) 58 0 ∷ windowsTold es
+
+unfoldable pub fileTold : List Entry → List ℕ
+fileTold [] = []
+fileTold (entry a m ∷ es) = m .registers ++ fileTold es
+
 -- ---------------------------------------------------------------- images
+-- register 1 to local 0 and to out 0; a save; register 1 to local 0; ta 0
+abbrev pub windows : List ℕ
+windows = 0xA0100001 ∷ 0x90100001 ∷ 0x81E00000 ∷ 0xA0100001 ∷ 0x91D02000 ∷ []
+
 -- ba 12; add 1 to register 1; illegal; ta 0
 abbrev pub p1 : List ℕ
 p1 = 0x10800003 ∷ 0x82006001 ∷ 0x00000000 ∷ 0x91D02000 ∷ []
@@ -294,12 +316,13 @@ cases =
     -- begun at an address without a plain place, "as kind 6 would": an entry there, and 6 inside the image, 2 outside
     ∷ row 0 (newTold 2 4 strays (begins 8 5 0) 9) (0 ∷ 8 ∷ 5 ∷ 6 ∷ 8 ∷ [])
     ∷ row 0 (newTold 2 4 strays (begins 16 5 0) 9) (0 ∷ 16 ∷ 5 ∷ 2 ∷ 16 ∷ [])
-    -- the bytes that such a begin leaves: all registers, flags and Y as they were, record 0, held address 0, end 6 and the address
-    ∷ row 0 (numbersIn (newBegins [] 0 16 8 (bytesOf (upTo (λ i. i + 5) 38)) .state)) (0 ∷ upTo (λ i. i + 6) 31 ++ (5 ∷ 0 ∷ 0 ∷ 6 ∷ 8 ∷ 42 ∷ []))
+    -- the bytes that such a begin leaves: all registers, flags, Y and windows as they were, record 0, held address 0, end 6 and the address; the nesting
+    -- as it counts, and the current window's ins, locals and outs among the windows
+    ∷ row 0 (numbersIn (newBegins [] 0 16 8 (bytesOf (upTo (λ i. i + 5) 167)) .state)) (0 ∷ upTo (λ i. i + 6) 31 ++ (5 ∷ 0 ∷ 0 ∷ 6 ∷ 8 ∷ 42 ∷ 6 ∷ upTo (λ i. i + 44) 96 ++ upTo (λ i. i + 29) 8 ++ upTo (λ i. i + 21) 8 ++ upTo (λ i. i + 13) 8 ++ upTo (λ i. i + 164) 8))
     -- and a begin of the old core
-    ∷ row 0 (numbersIn (oldBegins 8 (bytesOf (upTo (λ i. i + 5) 39)))) (0 ∷ upTo (λ i. i + 6) 31 ++ (5 ∷ 8 ∷ 12 ∷ 0 ∷ 0 ∷ 0 ∷ 43 ∷ []))
+    ∷ row 0 (numbersIn (oldBegins 8 (bytesOf (upTo (λ i. i + 5) 168)))) (0 ∷ upTo (λ i. i + 6) 31 ++ (5 ∷ 8 ∷ 12 ∷ 0 ∷ 0 ∷ 0 ∷ 43 ∷ 6 ∷ upTo (λ i. i + 45) 96 ++ upTo (λ i. i + 29) 8 ++ upTo (λ i. i + 21) 8 ++ upTo (λ i. i + 13) 8 ++ upTo (λ i. i + 165) 8))
     -- and how many bytes a state has, of either core
-    ∷ row 0 (length (oldBegins 8 []) ∷ length (newBegins [] 0 16 8 [] .state) ∷ []) (oldSize ∷ newSize ∷ [])
+    ∷ row 0 (length (oldBegins 8 []) ∷ length (newBegins [] 0 16 8 [] .state) ∷ oldSize ∷ newSize ∷ []) (672 ∷ 668 ∷ 672 ∷ 668 ∷ [])
     -- each refusal, with both buffers: "Every refusal fills both buffers with 0"
     ∷ row 0 (bytesBack (translation [] 0 (bytesOf (0 ∷ [])) 3 5)) (1 ∷ 0 ∷ 0 ∷ replicate 8 0)
     ∷ row 0 (bytesBack (translation (1 ∷ 2 ∷ []) 0 (bytesOf (0 ∷ [])) 3 5)) (1 ∷ 2 ∷ 0 ∷ replicate 8 0)
@@ -461,6 +484,38 @@ cases =
     ∷ row 0 (yTold (entries (newCut 3 5 squares (begins 0 0x10001 0) 9))) (0 ∷ 1 ∷ 1 ∷ [])
     ∷ row 0 (yTold (entries (oldCut (0x83400000 ∷ 0x91D02000 ∷ []) (beginsWithY 0 7) 9))) (7 ∷ 7 ∷ [])
     ∷ row 0 (newTold 2 3 (0x83400000 ∷ 0x91D02000 ∷ []) (beginsWithY 0 7) 9) (0 ∷ 0 ∷ 0 ∷ 2 ∷ 4 ∷ 7 ∷ 1 ∷ 0 ∷ [])
+    -- 02, N11: "Save and restore add like add, reading in the old window and writing rd in the new. .. Ins and outs overlap": %sp, with a sum over
+    -- 2^32, and %o6 as %i6; flags stay
+    ∷ row 0 (windowed (14 ∷ 30 ∷ []) (run (over (0x9DE3BFA0 ∷ [])) 1 (start 14 1000 15))) (1 ∷ 15 ∷ 904 ∷ 1000 ∷ [])
+    ∷ row 0 (windowed (14 ∷ 30 ∷ []) (run (over (0xBDE3A002 ∷ [])) 1 (start 14 0xFFFFFFFF 15))) (1 ∷ 15 ∷ 0 ∷ 1 ∷ [])
+    -- locals are a window's own, globals of all; rd may be a global, and nothing is written to register 0
+    ∷ row 0 (windowed (16 ∷ []) (run (over (0x81E00000 ∷ [])) 1 (start 16 7 0))) (1 ∷ 0 ∷ 0 ∷ [])
+    ∷ row 0 (windowed (1 ∷ 2 ∷ 0 ∷ []) (run (over (0x85E06001 ∷ 0x81E06001 ∷ [])) 2 (start 1 7 0))) (2 ∷ 0 ∷ 7 ∷ 8 ∷ 0 ∷ [])
+    -- and back: what the inner window left in its ins is found in the outs, and a restore reads in the inner window
+    ∷ row 0 (windowed (16 ∷ 9 ∷ []) (run (over (0x81E00000 ∷ 0xB2002003 ∷ 0x81E80000 ∷ [])) 3 (start 16 7 0))) (0 ∷ 0 ∷ 7 ∷ 3 ∷ [])
+    ∷ row 0 (windowed (8 ∷ 24 ∷ []) (run (over (0x81E00000 ∷ 0x91EE2001 ∷ [])) 2 (start 8 7 0))) (0 ∷ 0 ∷ 8 ∷ 0 ∷ [])
+    -- the outs of window 6 are the ins of window 7, which nothing else writes; window 0's ins are no window's outs from 0 to 6
+    ∷ row 0 (windowed (8 ∷ 24 ∷ []) (run (over (0x81E80000 ∷ 0x81E00000 ∷ [])) 2 (start 33 6 0))) (6 ∷ 0 ∷ 0 ∷ 0 ∷ [])
+    -- "A save at 6 or a restore at 0 ends the run and changes nothing. .. 8, too many saves; 9, too many restores, each with the nesting": after six
+    -- saves a seventh, and after one restore too many
+    ∷ row 0 (ended (run (over (replicate 7 0x81E00000)) 6 (start 1 0 0))) (0 ∷ 0 ∷ [])
+    ∷ row 0 (ended (run (over (replicate 7 0x81E00000)) 7 (start 1 0 0))) (8 ∷ 6 ∷ [])
+    ∷ row 0 (windowed (14 ∷ []) (run (over (0x9DE3BFA0 ∷ [])) 1 (start 33 6 5))) (6 ∷ 5 ∷ 0 ∷ [])
+    ∷ row 0 (ended (run (over (0x81E00000 ∷ 0x81E80000 ∷ 0x91EA2001 ∷ [])) 3 (start 1 0 0))) (9 ∷ 0 ∷ [])
+    ∷ row 0 (windowed (8 ∷ []) (run (over (0x91EA2001 ∷ [])) 1 (start 8 7 5))) (0 ∷ 5 ∷ 7 ∷ [])
+    -- N2's unused bits; kind 1 does both words, and no kind 7 ends so
+    ∷ row 0 (ended (run (over (0x81E00020 ∷ [])) 1 (start 33 6 0))) (3 ∷ 0 ∷ [])
+    ∷ row 0 (stepAt 0 (1 ∷ 0x81E00000 ∷ 0 ∷ [])) (0 ∷ 0 ∷ [])
+    ∷ row 0 (stepAt 0 (1 ∷ 0x81E80000 ∷ 0 ∷ [])) (9 ∷ 0 ∷ [])
+    ∷ row 0 (stepAt 0 (1 ∷ 0x81E80020 ∷ 0 ∷ [])) (7 ∷ 0 ∷ [])
+    ∷ row 0 (stepAt 0 (7 ∷ 8 ∷ 6 ∷ [])) (7 ∷ 0 ∷ [])
+    ∷ row 0 (stepAt 0 (7 ∷ 9 ∷ 0 ∷ [])) (7 ∷ 0 ∷ [])
+    -- "Trail entries show the nesting and every window", on both cores: the local and the out that window 0 had, and the local of window 1
+    ∷ row 0 (windowsTold (entries (oldCut windows (begins 0 7 0) 9))) (0 ∷ 0 ∷ 0 ∷ 0 ∷ 0 ∷ 7 ∷ 0 ∷ 0 ∷ 0 ∷ 7 ∷ 7 ∷ 0 ∷ 1 ∷ 7 ∷ 7 ∷ 0 ∷ 1 ∷ 7 ∷ 7 ∷ 7 ∷ [])
+    ∷ row 0 (windowsTold (entries (newCut 5 9 windows (begins 0 7 0) 9))) (0 ∷ 0 ∷ 0 ∷ 0 ∷ 0 ∷ 7 ∷ 0 ∷ 0 ∷ 0 ∷ 7 ∷ 7 ∷ 0 ∷ 1 ∷ 7 ∷ 7 ∷ 0 ∷ 1 ∷ 7 ∷ 7 ∷ 7 ∷ [])
+    -- "demand 3 takes any windows and any nesting from 0 to 6, and a nesting handed in above 6 counts as 6": the whole file that a first entry shows
+    ∷ row 0 (fileTold (entries (oldCut windows anyWindows 1))) (0 ∷ upTo (λ i. i + 2) 32 ++ (6 ∷ upTo (λ i. i + 35) 96 ++ upTo (λ i. i + 25) 8 ++ upTo (λ i. i + 17) 8 ++ upTo (λ i. i + 9) 8 ++ upTo (λ i. i + 155) 8))
+    ∷ row 0 (fileTold (entries (newCut 5 9 windows anyWindows 1))) (0 ∷ upTo (λ i. i + 2) 32 ++ (6 ∷ upTo (λ i. i + 35) 96 ++ upTo (λ i. i + 25) 8 ++ upTo (λ i. i + 17) 8 ++ upTo (λ i. i + 9) 8 ++ upTo (λ i. i + 155) 8))
     ∷ []
 
 pub noCase : Row

@@ -9,6 +9,7 @@ use Rattle.numbers.specs.Choice.{pick}
 use Rattle.numbers.specs.Number.{upTo}
 use Rattle.machine.specs.Ends.{ending, State, state}
 use Rattle.machine.specs.Registers.{fileSize}
+use Rattle.machine.specs.Windows.{laid, comeIn}
 use Rattle.machine.specs.Effect.{Machine, machine}
 use Rattle.model.specs.Run.{dataOf}
 use Rattle.model.specs.OldCore.{Old, old, oldNext, oldBegun}
@@ -16,10 +17,14 @@ use Rattle.model.specs.Records.{Rec, doWord, link, hold, goIf, goTo, goH
 use Rattle.model.specs.NewCore.{New, new, newNext, newBegun}
 use Rattle.model.specs.Trails.{Core, Trail, landing, trail}
 
--- what an entry shows: "Register 0 reads and shows as 0", registers 1 to 31, the flags, and the data, of which there are at most 65,536 bytes.
--- 02, N4: "The state and each trail entry gain Y", which stands behind the registers
+-- all numbers of a file: "Register 0 reads and shows as 0"
+abbrev pub wholeFile : List ℕ → List ℕ
+wholeFile rs = 0 ∷ upTo (λ i. getD rs (i + 1) 0) (fileSize - 1)
+
+-- what an entry shows: registers 0 to 31, the flags, and the data, of which there are at most 65,536 bytes. 02, N4: "The state and each trail entry
+-- gain Y"; N11: "Trail entries show the nesting and every window"; they stand behind the registers
 unfoldable pub shownOf : Machine → Machine
-shownOf m = machine (0 ∷ upTo (λ i. getD (m .registers) (i + 1) 0) (fileSize - 1)) (m .flags) (dataOf (m .area))
+shownOf m = machine (laid (wholeFile (m .registers))) (m .flags) (dataOf (m .area))
 
 -- "The old core's trail has an entry before each step in which annul is clear and the run has not ended, addresses outside the image included."
 unfoldable pub oldMark : Old → Option ℕ
@@ -65,16 +70,20 @@ abbrev pub newOver : List ℕ → List ℕ → ℕ → ℕ → ℕ → Core New
 newOver records places base size db =
     record { next = newNext records places base size db; mark = newMark places; shown = newShown; byHeld = newByHeld records }
 
--- where a run begins, and with "any registers, flags and data". 02, N4: "demand 3 takes any Y", behind the registers
+-- where a run begins, and with "any registers, flags and data". 02, N4: "demand 3 takes any Y"; N11: "demand 3 takes any windows and any nesting from
+-- 0 to 6, and a nesting handed in above 6 counts as 6"; they stand behind the registers
 pub record Start : Type 0 where
   pub address : ℕ
   pub registers : List ℕ
   pub flags : ℕ
   pub area : List ℕ
 
--- the machine that it begins with: register 0 is 0, and of the area there are 65,536 bytes
+-- the machine that a run begins with: register 0 is 0, the file as it counts, and of the area there are 65,536 bytes
+unfoldable pub begunWith : Machine → Machine
+begunWith m = machine (comeIn (wholeFile (m .registers))) (m .flags) (dataOf (m .area))
+
 abbrev pub startMachine : Start → Machine
-startMachine x = shownOf (machine (x .registers) (x .flags) (x .area))
+startMachine x = begunWith (machine (x .registers) (x .flags) (x .area))
 
 abbrev pub oldBegin : Start → State Old
 oldBegin x = oldBegun (x .address) (startMachine x)

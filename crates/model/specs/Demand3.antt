@@ -1,6 +1,6 @@
 -- Demand 3 of the request. Above each part stand the words that it renders. Throughout, x and y are starts, s a core's state with how it
 -- ended, a an address, h a held address, c a core (o the old one, n the new one), t and u trails (t old, u new), and k the cut.
-use Prim.Native.Nat.{ℕ, suc, _*_, _≤_, _<_}
+use Prim.Native.Nat.{ℕ, suc, _*_, _≤_, _<_, min}
 use mathlib.Core.Path.{_≡_}
 use mathlib.Core.Logic.{_↔_}
 use mathlib.Core.Bool.{Bool, true}
@@ -10,6 +10,7 @@ use lib.ListN.{length, take, getD}
 use Rattle.numbers.specs.Number.{Below}
 use Rattle.machine.specs.Ends.{ending, State, state, live}
 use Rattle.machine.specs.Registers.{fileSize, yOf}
+use Rattle.machine.specs.Windows.{nestingOf, placeOf}
 use Rattle.machine.specs.Effect.{machine}
 use Rattle.model.specs.declared.Answer.the-variants.{Accepted}
 use Rattle.model.specs.Run.{run}
@@ -24,8 +25,9 @@ use Rattle.model.specs.Cores.{Start, oldOver, newOver, oldBegin, newBegi
 abbrev pub Placed : List ℕ → ℕ → List ℕ → ℕ → Type 0
 Placed image base entryList a = Makes image base (numbersIn entryList) (plain a)
 
--- "An entry is the address about to be executed, all registers, flags and data bytes"; 02, N4: "The state and each trail entry gain Y": the first,
--- after 0 steps, is the start itself
+-- "An entry is the address about to be executed, all registers, flags and data bytes"; 02, N4: "The state and each trail entry gain Y"; N11: "Trail
+-- entries show the nesting and every window": the first, after 0 steps, is the start itself. Of the windows, what the current one covers is its
+-- registers, and the rest the start's
 pub record Begins (x : Start) (t : Trail) : Type 0 where
   pub registers : List ℕ
   pub flags : ℕ
@@ -36,6 +38,10 @@ pub record Begins (x : Start) (t : Trail) : Type 0 where
   pub register-0 : getD registers 0 0 ≡ 0
   pub others : (i : ℕ) → 1 ≤ i → i < 32 → getD registers i 0 ≡ getD (x .registers) i 0
   pub same-y : yOf registers ≡ yOf (x .registers)
+  pub nesting : nestingOf registers ≡ min (nestingOf (x .registers)) 6
+  pub current : (r : ℕ) → 8 ≤ r → r < 32 → getD registers (placeOf (nestingOf registers) r) 0 ≡ getD registers r 0
+  pub windows : (i : ℕ) → 34 ≤ i → i < fileSize → ((r : ℕ) → 8 ≤ r → r < 32 → i ≡ placeOf (nestingOf registers) r → ⊥)
+      → getD registers i 0 ≡ getD (x .registers) i 0
   pub same-flags : flags ≡ x .flags
   pub same-bytes : area ≡ take 65536 (x .area)
 
@@ -95,7 +101,8 @@ Demand3 =
     → Below 256 image → Below 256 entryList
     → (handed : Handed) → handed ≡ translation image base entryList placesLength recordsLength
     → handed .answer ≡ Accepted placeCount recordCount
-    -- "for each core, any address with a plain place to begin at and any registers, flags and data"; 02, N4: "demand 3 takes any Y"
+    -- "for each core, any address with a plain place to begin at and any registers, flags and data"; 02, N4: "demand 3 takes any Y"; N11: "demand 3
+    -- takes any windows and any nesting from 0 to 6"
     → (x y : Start) → Placed image base entryList (x .address) → Placed image base entryList (y .address)
     -- "one data base; and any number of entries, at least one, at which both trails are cut"
     → (db k : ℕ) → 1 ≤ k

@@ -9,7 +9,8 @@ use Rattle.model.specs.declared.NewControl.{NewControl}
 use Rattle.model.specs.declared.NewCore.{NewCore}
 use Rattle.model.specs.NewCore.{New, new}
 
--- "The start values are all registers 0 and all flags clear." 02, N4: "The state and each trail entry gain Y, 0 among the start values"
+-- "The start values are all registers 0 and all flags clear." 02, N4: "The state and each trail entry gain Y, 0 among the start values"; N11: "the
+-- start values are 0 throughout"
 unfoldable pub newStartValues : NewCore
 newStartValues =
     record {

@@ -11,13 +11,13 @@ use Rattle.words.specs.Reader.{instructionOf}
 use Rattle.words.specs.Conditions.{holdsOf}
 use Rattle.words.specs.declared.Operand.{Operand}
 use Rattle.words.specs.declared.Instruction.{Instruction}
-use Rattle.words.specs.declared.Instruction.the-variants.{Illegal, Call, Sethi, Bicc, Arithmetic, Jmpl, Ticc, Load, Store, Shift, Rdy, Wry}
+use Rattle.words.specs.declared.Instruction.the-variants.{Illegal, Call, Sethi, Bicc, Arithmetic, Jmpl, Ticc, Load, Store, Shift, Rdy, Wry, Window}
 use Rattle.machine.specs.Ends.{ending, Next, go, halt, within, State, live}
 use Rattle.machine.specs.Registers.{putRegister, addressOf}
 use Rattle.machine.specs.Effect.{Machine, withRegisters, effectOf}
 
--- "State: 32 registers of 32 bits, flags N, Z, V, C, PC, nPC, annul". 02, N4: "The state and each trail entry gain Y": registers and Y, flags and
--- data, then PC, nPC, annul
+-- "State: 32 registers of 32 bits, flags N, Z, V, C, PC, nPC, annul". 02, N4: "The state and each trail entry gain Y"; N11: "Add V8's windows":
+-- registers, Y and windows, flags and data, then PC, nPC, annul
 pub data Old : Type 0 where
   old : Machine → ℕ → ℕ → Bool → Old
 
@@ -57,6 +57,8 @@ transferOf (Store w rd rs1 x) = straight
 transferOf (Shift o rd rs1 x) = straight
 transferOf (Rdy rd) = straight
 transferOf (Wry s) = straight
+-- 02, N11: "Translation treats them as words that don't transfer."
+transferOf (Window o rd rs1 x) = straight
 
 -- where a displacement, which counts words, leads from an address
 unfoldable pub target : ℕ → ℕ → ℕ

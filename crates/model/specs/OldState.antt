@@ -11,7 +11,8 @@ use Rattle.model.specs.declared.OldControl.{OldControl}
 use Rattle.model.specs.declared.OldCore.{OldCore}
 use Rattle.model.specs.OldCore.{Old, old}
 
--- "The start values are all registers 0 and all flags clear." 02, N4: "The state and each trail entry gain Y, 0 among the start values"
+-- "The start values are all registers 0 and all flags clear." 02, N4: "The state and each trail entry gain Y, 0 among the start values"; N11: "the
+-- start values are 0 throughout"
 unfoldable pub startValues : OldCore
 startValues =
     record {

@@ -7,14 +7,15 @@ use Rattle.numbers.specs.Number.{Below, numberAt, numbersOf, bytesOf}
 use Rattle.words.specs.Conditions.{bitOf}
 use Rattle.machine.specs.Ends.{Ending, ending, endingFrom, State, state}
 use Rattle.machine.specs.Registers.{fileSize, registerOf}
+use Rattle.machine.specs.Windows.{laid, comeIn}
 use Rattle.machine.specs.Effect.{Machine, machine}
 use Rattle.model.specs.OldCore.{Old, old, oldNext, oldBegun}
 use Rattle.model.specs.NewCore.{New, new, newNext, newBegun}
 use Rattle.model.specs.Run.{run, zeroed, dataOf, beyond}
 use Rattle.model.specs.OldState.{isSet}
 
--- numbers 0 to 31 are the registers. 02, N4: "The state and each trail entry gain Y": what the file has behind the registers stands at the
--- end of a state, from a byte that is each core's own
+-- numbers 0 to 31 are the registers. 02, N4: "The state and each trail entry gain Y"; N11: "Trail entries show the nesting and every window": what the
+-- file has behind the registers stands at the end of a state, from a byte that is each core's own
 unfoldable pub fileIn : ℕ → List ℕ → List ℕ
 fileIn behind bytes = numbersOf bytes 32 ++ numbersOf (drop behind bytes) (fileSize - 32)
 
@@ -31,13 +32,13 @@ oldSize = oldBehind + 4 * (fileSize - 32)
 abbrev pub newSize : ℕ
 newSize = newBehind + 4 * (fileSize - 32)
 
--- number 32 is the flags, of which the low four bits count
+-- number 32 is the flags, of which the low four bits count; the file as it counts
 unfoldable pub machineIn : ℕ → List ℕ → List ℕ → Machine
-machineIn behind bytes area = machine (zeroed (fileIn behind bytes)) (numberAt bytes 128 % 16) area
+machineIn behind bytes area = machine (comeIn (zeroed (fileIn behind bytes))) (numberAt bytes 128 % 16) area
 
--- a machine's numbers, those that a core has beside them between its flags and what the file has behind the registers
+-- a machine's numbers, as they are shown, those that a core has beside them between its flags and what the file has behind the registers
 abbrev pub stateNumbers : Machine → List ℕ → List ℕ
-stateNumbers m between = take 32 (m .registers) ++ (m .flags ∷ (between ++ drop 32 (m .registers)))
+stateNumbers m between = take 32 (laid (m .registers)) ++ (m .flags ∷ (between ++ drop 32 (laid (m .registers))))
 
 -- the old core: PC, nPC, annul, end and the number beside it follow
 unfoldable pub oldIn : List ℕ → List ℕ → State Old

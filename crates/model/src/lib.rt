@@ -5,6 +5,7 @@ ghost use mathlib.Core.List.{_++_};
 ghost use lib.ListN.{length, take, drop};
 ghost use Rattle.numbers.specs.Number.{bytesOf};
 ghost use Rattle.machine.specs.Registers.{fileSize};
+ghost use Rattle.machine.specs.Windows.{laid, comeIn};
 ghost use Rattle.model.specs.OldCore.{target};
 ghost use Rattle.model.specs.StateBytes.{fileIn};
 ghost use Rattle.model.specs.OldState.{startValues};
@@ -41,7 +42,7 @@ pub struct OldCore {
 }
 
 impl OldCore {
-    // The start values: all registers and Y 0, all flags clear.
+    // The start values: all registers, Y, nesting and windows 0, all flags clear.
     pub fn new() -> Self
         ensures { λ r. ⌜ r ≡ startValues ⌝ }
     {
@@ -75,7 +76,7 @@ pub struct NewCore {
 }
 
 impl NewCore {
-    // The start values: all registers and Y 0, all flags clear.
+    // The start values: all registers, Y, nesting and windows 0, all flags clear.
     pub fn new() -> Self
         ensures { λ r. ⌜ r ≡ newStartValues ⌝ }
     {
@@ -117,29 +118,45 @@ pub enum Answer {
 // The byte of each core's state from which on stands what the file has behind the registers, and how many bytes a state has.
 pub const OLD_BEHIND: usize = 152;
 
-pub const OLD_STATE: usize = 156;
+pub const OLD_STATE: usize = 672;
 
 pub const NEW_BEHIND: usize = 148;
 
-pub const NEW_STATE: usize = 152;
+pub const NEW_STATE: usize = 668;
 
-// The register file in a state's bytes: numbers 0 to 31, and behind them those from a position.
-pub fn file_in(bytes: &[u8], behind: usize) -> File
-    requires { ⌜ (128 ≤ behind) × (behind + 4 * (fileSize - 32) ≤ length (now bytes)) ⌝ }
-    ensures { λ r. ⌜ r ≡ fileIn behind (now (bytes .entry)) ⌝ }
+// The file's numbers in a state's bytes: numbers 0 to 31, and behind them those from a position.
+fn read_file(bytes: &[u8], behind: usize, regs: &mut [u32])
+    requires { ⌜ (128 ≤ behind) × (behind + 4 * (fileSize - 32) ≤ length (now bytes)) × (length (now regs) ≡ fileSize) ⌝ }
+    ensures { λ _. ⌜ now (regs .exit) ≡ fileIn behind (now (bytes .entry)) ⌝ }
 {
-    let mut regs = [0u32; FILE];
     numbers::read_numbers(bytes, &mut regs[..32]);
     numbers::read_numbers(&bytes[behind..], &mut regs[32..]);
-    regs
+}
+
+// The file of a state's bytes, as it counts. It is lent, so that nothing copies it.
+pub fn file_in(bytes: &[u8], behind: usize, regs: &mut File)
+    requires { ⌜ (128 ≤ behind) × (behind + 4 * (fileSize - 32) ≤ length (now bytes)) ⌝ }
+    ensures { λ _. ⌜ now (regs .exit) ≡ comeIn (fileIn behind (now (bytes .entry))) ⌝ }
+{
+    read_file(bytes, behind, regs);
+    machine::windows::come_in(regs);
 }
 
 // Fills a state's bytes: the registers, the flags and a core's own numbers, and what the file has behind the registers.
-pub fn put_state(bytes: &mut [u8], regs: File, rest: &[u32])
-    requires { ⌜ length (now bytes) ≡ 128 + 4 * length (now rest) + 4 * (fileSize - 32) ⌝ }
-    ensures { λ _. ⌜ now (bytes .exit) ≡ bytesOf (take 32 regs ++ (now (rest .entry) ++ drop 32 regs)) ⌝ }
+fn write_state(bytes: &mut [u8], regs: &[u32], rest: &[u32])
+    requires { ⌜ (length (now regs) ≡ fileSize) × (length (now bytes) ≡ 128 + 4 * length (now rest) + 4 * (fileSize - 32)) ⌝ }
+    ensures { λ _. ⌜ now (bytes .exit) ≡ bytesOf (take 32 (now (regs .entry)) ++ (now (rest .entry) ++ drop 32 (now (regs .entry)))) ⌝ }
 {
     numbers::write_numbers(bytes, 0, &regs[..32]);
     numbers::write_numbers(bytes, 128, rest);
     numbers::write_numbers(bytes, 128 + 4 * rest.len(), &regs[32..]);
+}
+
+// The same of a file in a run, the current window laid among the others.
+pub fn put_state(bytes: &mut [u8], regs: &mut File, rest: &[u32])
+    requires { ⌜ length (now bytes) ≡ 128 + 4 * length (now rest) + 4 * (fileSize - 32) ⌝ }
+    ensures { λ _. ⌜ (now (regs .exit) ≡ laid (now (regs .entry))) × (now (bytes .exit) ≡ bytesOf (take 32 (laid (now (regs .entry))) ++ (now (rest .entry) ++ drop 32 (laid (now (regs .entry)))))) ⌝ }
+{
+    machine::windows::lay_down(regs);
+    write_state(bytes, regs, rest);
 }

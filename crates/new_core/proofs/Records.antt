@@ -2,7 +2,7 @@
 use Rattle.numbers.proofs.Choice.{either, Misses, find-none}
 use Rattle.numbers.proofs.Lists.{at-up, past-up, drop-up, drop-all-up}
 use Rattle.numbers.specs.Number.{numberAt}
-use Rattle.words.specs.declared.Instruction.the-variants.{Illegal, Call, Sethi, Bicc, Arithmetic, Jmpl, Ticc, Load, Store, Shift, Rdy, Wry}
+use Rattle.words.specs.declared.Instruction.the-variants.{Illegal, Call, Sethi, Bicc, Arithmetic, Jmpl, Ticc, Load, Store, Shift, Rdy, Wry, Window}
 use Rattle.words.specs.declared.Instruction.{Instruction}
 use Rattle.words.specs.Reader.{instructionOf, asJmpl}
 use Rattle.machine.specs.Ends.{ending, halt}
@@ -26,7 +26,7 @@ use Rattle.words.proofs.Instruction.{the-type as instruction}
 
 -- the numbers are those of the variants, in the order of the enum
 abbrev others : List ℕ
-others = 2 ∷ 4 ∷ 6 ∷ 7 ∷ 8 ∷ 9 ∷ 10 ∷ 11 ∷ []
+others = 2 ∷ 4 ∷ 6 ∷ 7 ∷ 8 ∷ 9 ∷ 10 ∷ 11 ∷ 12 ∷ []
 
 pub fits : (i : Instruction) → OneOf others (tagOf instruction i) → fit (transferOf i) ≡ true
 unfolding fit transferOf
@@ -42,9 +42,10 @@ fits (Store w rd rs1 x) k = refl
 fits (Shift o rd rs1 x) k = refl
 fits (Rdy rd) k = refl
 fits (Wry s) k = refl
+fits (Window o rd rs1 x) k = refl
 
 abbrev no-jmpl : List ℕ
-no-jmpl = 0 ∷ 1 ∷ 2 ∷ 3 ∷ 4 ∷ 6 ∷ 7 ∷ 8 ∷ 9 ∷ 10 ∷ 11 ∷ []
+no-jmpl = 0 ∷ 1 ∷ 2 ∷ 3 ∷ 4 ∷ 6 ∷ 7 ∷ 8 ∷ 9 ∷ 10 ∷ 11 ∷ 12 ∷ []
 
 pub not-held : (i : Instruction) (p : ℕ) (m : Machine) (r : ℕ) → OneOf no-jmpl (tagOf instruction i) → holds (transferOf i) p m r ≡ halt (ending 7 r)
 unfolding holds transferOf
@@ -60,6 +61,7 @@ not-held (Store w rd rs1 x) p m r k = refl
 not-held (Shift o rd rs1 x) p m r k = refl
 not-held (Rdy rd) p m r k = refl
 not-held (Wry s) p m r k = refl
+not-held (Window o rd rs1 x) p m r k = refl
 
 -- a word read for a jmpl alone is held as the word itself
 pub held-alone : (word : ℕ) (i : Instruction) (p : ℕ) (m : Machine) (r : ℕ) → i ≡ asJmpl (instructionOf word)
@@ -80,6 +82,7 @@ held-alone word i p m r e = rw e (alone (instructionOf word))
     alone (Shift o rd rs1 x) = refl
     alone (Rdy rd) = refl
     alone (Wry s) = refl
+    alone (Window o rd rs1 x) = refl
 
 each : (w : Which) → idleBicc w true ≡ false
 unfolding idleBicc

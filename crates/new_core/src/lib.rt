@@ -25,7 +25,6 @@ use machine::registers::File;
 use machine::registers::address;
 use machine::registers::put;
 use model::NewControl;
-use model::NewCore;
 use words::Instruction;
 
 // The next record.
@@ -329,22 +328,23 @@ fn begun(f: Flags, to: TargetPc, e: End) -> NewControl
     }
 }
 
-// At the first record of the address's lowest-numbered plain place, or ended where there is none; registers, Y and flags stay.
-pub fn begin(places: &[u8], base: u32, size: u32, core: NewCore, a: SourcePc) -> NewCore
-    ensures { λ r. ⌜ ((area : List ℕ) → newState (r .registers) (r .control) area ≡ newBegun (now (places .entry)) base size (a .0) (machine (zeroed (core .registers)) (core .control .flags .nzvc) area)) ⌝ }
+// At the first record of the address's lowest-numbered plain place, or ended where there is none; flags and the lent file stay.
+pub fn begin(
+    places: &[u8],
+    base: u32,
+    size: u32,
+    regs: &mut File,
+    c: NewControl,
+    a: SourcePc,
+) -> NewControl
+    ensures { λ r. ⌜ ((area : List ℕ) → newState (now (regs .exit)) r area ≡ newBegun (now (places .entry)) base size (a .0) (machine (zeroed (now (regs .entry))) (c .flags .nzvc) area)) ⌝ }
 {
-    let k = core.control;
-    let f = k.flags;
-    let mut regs = core.registers;
     regs[0] = 0;
+    let f = c.flags;
     let s = search(places, a);
-    let c = match s {
+    match s {
         Sought::Record(to) => begun(f, to, End::Going),
         Sought::Nothing => begun(f, TargetPc(0), lost_at(base, size, a)),
-    };
-    NewCore {
-        registers: regs,
-        control: c,
     }
 }
 

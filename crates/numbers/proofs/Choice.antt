@@ -2,7 +2,7 @@
 use Prim.Native.Nat.{ℕ}
 use mathlib.Core.Path.{_≡_, refl, sym}
 use mathlib.Core.Bool.{Bool, true, false, _&&_, false≢true}
-use mathlib.Core.List.{List, [], _∷_}
+use mathlib.Core.List.{List, [], _∷_, _++_, append-nil}
 use lib.Dec.{eqb}
 use borrow.Author.Tests.{ne-eqb, eqb-true}
 use Rattle.numbers.specs.Choice.{pick, find}
@@ -33,14 +33,18 @@ abbrev pub Misses : {A : Type 0} → Type 0 → List (ℕ × A) → ℕ → Type
 Misses U [] k = U
 Misses U (row ∷ rows) k = Misses (U × (k ≡ row .0 → ⊥)) rows k
 
-missed : {A : Type 0} (U : Type 0) (rows : List (ℕ × A)) (d : A) (k : ℕ) → Misses U rows k → U × (find rows d k ≡ d)
-missed U [] d k m = (m, refl)
-missed U (row ∷ rows) d k m =
-    let t = missed (U × (k ≡ row .0 → ⊥)) rows d k m in
+missed : {A : Type 0} (U : Type 0) (rows more : List (ℕ × A)) (d : A) (k : ℕ) → Misses U rows k → U × (find (rows ++ more) d k ≡ find more d k)
+missed U [] more d k m = (m, refl)
+missed U (row ∷ rows) more d k m =
+    let t = missed (U × (k ≡ row .0 → ⊥)) rows more d k m in
     (t .0 .0, rw (ne-eqb k (row .0) (t .0 .1)) (t .1))
 
+-- the rows behind them are left
+pub find-behind : {A : Type 0} (rows more : List (ℕ × A)) (d : A) (k : ℕ) → Misses (Unit {0}) rows k → find (rows ++ more) d k ≡ find more d k
+find-behind rows more d k m = missed (Unit {0}) rows more d k m .1
+
 pub find-none : {A : Type 0} (rows : List (ℕ × A)) (d : A) (k : ℕ) → Misses (Unit {0}) rows k → find rows d k ≡ d
-find-none rows d k m = missed (Unit {0}) rows d k m .1
+find-none rows d k m = rw (append-nil rows) at (find-behind rows [] d k m)
 
 -- a test that passes for every row's key and value, and for the other value, passes for the key and what is found
 abbrev pub every : {A : Type 0} → (ℕ → A → Bool) → List (ℕ × A) → Bool

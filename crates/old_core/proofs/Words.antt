@@ -3,7 +3,7 @@ use lib.Dec.{eqb}
 use borrow.Author.Tests.{ne-eqb}
 use Rattle.numbers.specs.Number.{plus}
 use Rattle.numbers.specs.Choice.{pick}
-use Rattle.words.specs.declared.Instruction.the-variants.{Illegal, Call, Sethi, Bicc, Arithmetic, Jmpl, Ticc, Load, Store, Shift, Rdy, Wry}
+use Rattle.words.specs.declared.Instruction.the-variants.{Illegal, Call, Sethi, Bicc, Arithmetic, Jmpl, Ticc, Load, Store, Shift, Rdy, Wry, Window}
 use Rattle.words.specs.declared.Instruction.{Instruction}
 use Rattle.words.specs.Conditions.{bitOf}
 use Rattle.machine.specs.Ends.{within, live, settle, ending, halt}
@@ -20,7 +20,7 @@ use Rattle.words.proofs.Instruction.{the-type as instruction}
 
 -- the numbers are those of the variants, in the order of the enum
 abbrev others : List ℕ
-others = 2 ∷ 4 ∷ 6 ∷ 7 ∷ 8 ∷ 9 ∷ 10 ∷ 11 ∷ []
+others = 2 ∷ 4 ∷ 6 ∷ 7 ∷ 8 ∷ 9 ∷ 10 ∷ 11 ∷ 12 ∷ []
 
 pub no-transfer : (db : ℕ) (i : Instruction) (m : Machine) (pc npc : ℕ) → OneOf others (tagOf instruction i)
     → executes db (transferOf i) i m pc npc ≡ within (follows npc) (effectOf db i m)
@@ -41,6 +41,7 @@ no-transfer db (Store w rd rs1 x) m pc npc k = refl
 no-transfer db (Shift o rd rs1 x) m pc npc k = refl
 no-transfer db (Rdy rd) m pc npc k = refl
 no-transfer db (Wry s) m pc npc k = refl
+no-transfer db (Window o rd rs1 x) m pc npc k = refl
 
 -- annul, as a number and as a test
 pub set-bit : (b : Bool) → isSet (bitOf b) ≡ b

@@ -22,7 +22,6 @@ use machine::registers::File;
 use machine::registers::address;
 use machine::registers::put;
 use model::OldControl;
-use model::OldCore;
 use model::target;
 use words::Instruction;
 use words::Operand;
@@ -190,25 +189,19 @@ fn steps(
     s
 }
 
-// PC at the address, nPC 4 further, annul clear, not ended; registers, Y and flags stay.
-pub fn begin(core: OldCore, pc: SourcePc) -> OldCore
-    ensures { λ r. ⌜ ((a : List ℕ) → oldState (r .registers) (r .control) a ≡ oldBegun (pc .0) (machine (zeroed (core .registers)) (core .control .flags .nzvc) a)) ⌝ }
+// PC at the address, nPC 4 further, annul clear, not ended; flags and the lent file stay.
+pub fn begin(regs: &mut File, c: OldControl, pc: SourcePc) -> OldControl
+    ensures { λ r. ⌜ ((a : List ℕ) → oldState (now (regs .exit)) r a ≡ oldBegun (pc .0) (machine (zeroed (now (regs .entry))) (c .flags .nzvc) a)) ⌝ }
 {
-    let k = core.control;
-    let f = k.flags;
-    let mut regs = core.registers;
     regs[0] = 0;
+    let f = c.flags;
     let npc = further(pc, 4);
-    let c = OldControl {
+    OldControl {
         flags: f,
         pc,
         npc,
         annul: 0,
         end: End::Going,
-    };
-    OldCore {
-        registers: regs,
-        control: c,
     }
 }
 

@@ -3,6 +3,7 @@ ghost use mathlib.Core.Path.{_≡_};
 ghost use mathlib.Core.List.{List, []};
 ghost use Prim.Native.Nat.{ℕ};
 ghost use Rattle.machine.specs.Ends.{ending, endingOf};
+ghost use Rattle.machine.specs.Windows.{laid};
 ghost use Rattle.model.specs.Run.{zeroed};
 ghost use Rattle.model.specs.NewState.{newState};
 ghost use Rattle.model.specs.StateBytes.{newIn, newBytes, after, newBegins, newRuns};
@@ -10,16 +11,17 @@ use machine::Ended;
 use machine::Flags;
 use machine::SourcePc;
 use machine::TargetPc;
+use machine::registers::FILE;
+use machine::registers::File;
 use model::NEW_BEHIND;
 use model::NEW_STATE;
 use model::NewControl;
-use model::NewCore;
 
-// The state that bytes stand for.
-fn decode(state: &[u8; NEW_STATE]) -> NewCore
-    ensures { λ r. ⌜ ((a : List ℕ) → newState (zeroed (r .registers)) (r .control) a ≡ newIn (now (state .entry)) a) ⌝ }
+// The state that bytes stand for, its file lent.
+fn decode(state: &[u8; NEW_STATE], regs: &mut File) -> NewControl
+    ensures { λ r. ⌜ ((a : List ℕ) → newState (zeroed (now (regs .exit))) r a ≡ newIn (now (state .entry)) a) ⌝ }
 {
-    let regs = model::file_in(state, NEW_BEHIND);
+    model::file_in(state, NEW_BEHIND, regs);
     let nzvc = numbers::read_number(state, 128) % 16;
     let k = TargetPc(numbers::read_number(state, 132));
     let h = SourcePc(numbers::read_number(state, 136));
@@ -28,24 +30,18 @@ fn decode(state: &[u8; NEW_STATE]) -> NewCore
         numbers::read_number(state, 144),
     );
     let f = Flags { nzvc };
-    let c = NewControl {
+    NewControl {
         flags: f,
         at: k,
         held: h,
         end: e,
-    };
-    NewCore {
-        registers: regs,
-        control: c,
     }
 }
 
-// The bytes of a state, and how it ended.
-fn encode(core: NewCore, state: &mut [u8; NEW_STATE]) -> Ended
-    ensures { λ r. ⌜ (ending (r .end) (r .number) ≡ endingOf (core .control .end)) × ((a : List ℕ) → now (state .exit) ≡ newBytes (newState (core .registers) (core .control) a)) ⌝ }
+// The bytes of a state, the current window among the others, and how it ended.
+fn encode(regs: &mut File, c: NewControl, state: &mut [u8; NEW_STATE]) -> Ended
+    ensures { λ r. ⌜ (ending (r .end) (r .number) ≡ endingOf (c .end)) × (now (regs .exit) ≡ laid (now (regs .entry))) × ((a : List ℕ) → now (state .exit) ≡ newBytes (newState (now (regs .entry)) c a)) ⌝ }
 {
-    let regs = core.registers;
-    let c = core.control;
     let f = c.flags;
     let k = c.at;
     let h = c.held;
@@ -56,7 +52,7 @@ fn encode(core: NewCore, state: &mut [u8; NEW_STATE]) -> Ended
     r
 }
 
-// Begins at an address: registers, Y and flags stay.
+// Begins at an address: registers, flags, Y, nesting and windows stay.
 #[no_mangle]
 pub extern "C" fn pijorrel_new_begin(
     places: &[u8],
@@ -67,8 +63,10 @@ pub extern "C" fn pijorrel_new_begin(
 ) -> Ended
     ensures { λ r. ⌜ after (r .end) (r .number) (now (state .exit)) [] ≡ newBegins (now (places .entry)) base size a (now (state .entry)) ⌝ }
 {
-    let core = new_core::begin(places, base, size, decode(state), SourcePc(a));
-    encode(core, state)
+    let mut regs = [0u32; FILE];
+    let c = decode(state, &mut regs);
+    let k = new_core::begin(places, base, size, &mut regs, c, SourcePc(a));
+    encode(&mut regs, k, state)
 }
 
 // Does count records, or fewer where the run ends.
@@ -85,19 +83,8 @@ pub extern "C" fn pijorrel_new_run(
 ) -> Ended
     ensures { λ r. ⌜ after (r .end) (r .number) (now (state .exit)) (now (area .exit)) ≡ newRuns (now (records .entry)) (now (places .entry)) base size db count (now (state .entry)) (now (area .entry)) ⌝ }
 {
-    let mut core = decode(state);
-    let c = core.control;
-    let k = new_core::run(
-        records,
-        places,
-        base,
-        size,
-        db,
-        &mut core.registers,
-        c,
-        area,
-        count,
-    );
-    core.control = k;
-    encode(core, state)
+    let mut regs = [0u32; FILE];
+    let c = decode(state, &mut regs);
+    let k = new_core::run(records, places, base, size, db, &mut regs, c, area, count);
+    encode(&mut regs, k, state)
 }

@@ -3,22 +3,24 @@ ghost use mathlib.Core.Path.{_≡_};
 ghost use mathlib.Core.List.{List};
 ghost use Prim.Native.Nat.{ℕ};
 ghost use Rattle.machine.specs.Ends.{ending, endingOf};
+ghost use Rattle.machine.specs.Windows.{laid};
 ghost use Rattle.model.specs.Run.{zeroed};
 ghost use Rattle.model.specs.OldState.{oldState};
 ghost use Rattle.model.specs.StateBytes.{oldIn, oldBytes, after, oldBegins, oldRuns};
 use machine::Ended;
 use machine::Flags;
 use machine::SourcePc;
+use machine::registers::FILE;
+use machine::registers::File;
 use model::OLD_BEHIND;
 use model::OLD_STATE;
 use model::OldControl;
-use model::OldCore;
 
-// The state that bytes stand for.
-fn decode(state: &[u8; OLD_STATE]) -> OldCore
-    ensures { λ r. ⌜ ((a : List ℕ) → oldState (zeroed (r .registers)) (r .control) a ≡ oldIn (now (state .entry)) a) ⌝ }
+// The state that bytes stand for, its file lent.
+fn decode(state: &[u8; OLD_STATE], regs: &mut File) -> OldControl
+    ensures { λ r. ⌜ ((a : List ℕ) → oldState (zeroed (now (regs .exit))) r a ≡ oldIn (now (state .entry)) a) ⌝ }
 {
-    let regs = model::file_in(state, OLD_BEHIND);
+    model::file_in(state, OLD_BEHIND, regs);
     let nzvc = numbers::read_number(state, 128) % 16;
     let p = SourcePc(numbers::read_number(state, 132));
     let n = SourcePc(numbers::read_number(state, 136));
@@ -28,25 +30,19 @@ fn decode(state: &[u8; OLD_STATE]) -> OldCore
         numbers::read_number(state, 148),
     );
     let f = Flags { nzvc };
-    let c = OldControl {
+    OldControl {
         flags: f,
         pc: p,
         npc: n,
         annul: a,
         end: e,
-    };
-    OldCore {
-        registers: regs,
-        control: c,
     }
 }
 
-// The bytes of a state, and how it ended.
-fn encode(core: OldCore, state: &mut [u8; OLD_STATE]) -> Ended
-    ensures { λ r. ⌜ (ending (r .end) (r .number) ≡ endingOf (core .control .end)) × ((a : List ℕ) → now (state .exit) ≡ oldBytes (oldState (core .registers) (core .control) a)) ⌝ }
+// The bytes of a state, the current window among the others, and how it ended.
+fn encode(regs: &mut File, c: OldControl, state: &mut [u8; OLD_STATE]) -> Ended
+    ensures { λ r. ⌜ (ending (r .end) (r .number) ≡ endingOf (c .end)) × (now (regs .exit) ≡ laid (now (regs .entry))) × ((a : List ℕ) → now (state .exit) ≡ oldBytes (oldState (now (regs .entry)) c a)) ⌝ }
 {
-    let regs = core.registers;
-    let c = core.control;
     let f = c.flags;
     let p = c.pc;
     let n = c.npc;
@@ -58,13 +54,15 @@ fn encode(core: OldCore, state: &mut [u8; OLD_STATE]) -> Ended
     r
 }
 
-// Begins at an address: registers, Y and flags stay.
+// Begins at an address: registers, flags, Y, nesting and windows stay.
 #[no_mangle]
 pub extern "C" fn pijorrel_old_begin(pc: u32, state: &mut [u8; OLD_STATE])
     ensures { λ _. ⌜ now (state .exit) ≡ oldBegins pc (now (state .entry)) ⌝ }
 {
-    let core = old_core::begin(decode(state), SourcePc(pc));
-    let _r = encode(core, state);
+    let mut regs = [0u32; FILE];
+    let c = decode(state, &mut regs);
+    let k = old_core::begin(&mut regs, c, SourcePc(pc));
+    let _r = encode(&mut regs, k, state);
 }
 
 // Passes count words, or fewer where the run ends.
@@ -79,9 +77,8 @@ pub extern "C" fn pijorrel_old_run(
 ) -> Ended
     ensures { λ r. ⌜ after (r .end) (r .number) (now (state .exit)) (now (area .exit)) ≡ oldRuns (now (image .entry)) base db count (now (state .entry)) (now (area .entry)) ⌝ }
 {
-    let mut core = decode(state);
-    let c = core.control;
-    let k = old_core::run(image, base, db, &mut core.registers, c, area, count);
-    core.control = k;
-    encode(core, state)
+    let mut regs = [0u32; FILE];
+    let c = decode(state, &mut regs);
+    let k = old_core::run(image, base, db, &mut regs, c, area, count);
+    encode(&mut regs, k, state)
 }

@@ -9,7 +9,7 @@ use Rattle.numbers.specs.Choice.{pick}
 use Rattle.numbers.specs.Number.{minus, bytesOf}
 use Rattle.numbers.proofs.Choice.{Misses, find-none, found-all}
 use Rattle.words.specs.Reader.{Format2, rows2, none2, format2Of, Format3, rows3, none3, format3Of}
-use Rattle.words.specs.Writer.{arithmeticOp3, shiftOp3, loadOp3, storeOp3, longWord, shiftWord, rdyWord, wryWord, trapWord, writtenOf}
+use Rattle.words.specs.Writer.{arithmeticOp3, shiftOp3, windowOp3, loadOp3, storeOp3, longWord, shiftWord, rdyWord, wryWord, trapWord, writtenOf}
 use Rattle.words.specs.Flow.{flowOf, isKnown}
 use Rattle.words.specs.declared.Operand.{Operand}
 use Rattle.words.specs.declared.Written.{Written}
@@ -30,10 +30,10 @@ byKey op3 rd rs1 x =
     (pick (eqb op3 40) (rdyWord rd) (pick (eqb op3 48) (wryWord rs1 x) (longWord 2 rd op3 rs1 x))))
 
 pub form-2 : (op3 rd rs1 : ℕ) (x : Operand) → writtenOf (format2Of op3 rd rd rs1 x) ≡ pick (isKnown (flowOf (format2Of op3 0 0 rs1 x))) (byKey op3 rd rs1 x) (Unfit 0)
-unfolding format2Of writtenOf arithmeticOp3 shiftOp3 flowOf isKnown minus
+unfolding format2Of writtenOf arithmeticOp3 shiftOp3 windowOp3 flowOf isKnown minus
 form-2 op3 rd rs1 x =
     found-all (λ (key : ℕ) (f : Format2). writtenOf (f rd rd rs1 x) ≡ pick (isKnown (flowOf (f 0 0 rs1 x))) (byKey key rd rs1 x) (Unfit 0)) rows2 none2 op3
-    (refl, (refl, (refl, (refl, (refl, (refl, (refl, (refl, (refl, (refl, (refl, (refl, (refl, (refl, (refl, (refl, (refl, (refl, (refl, (refl, (refl, (refl, (refl, (refl, (refl, (refl, (refl, (refl, (refl, (refl, (refl, tt))))))))))))))))))))))))))))))) refl
+    (refl, (refl, (refl, (refl, (refl, (refl, (refl, (refl, (refl, (refl, (refl, (refl, (refl, (refl, (refl, (refl, (refl, (refl, (refl, (refl, (refl, (refl, (refl, (refl, (refl, (refl, (refl, (refl, (refl, (refl, (refl, (refl, (refl, tt))))))))))))))))))))))))))))))))) refl
 
 pub form-3 : (op3 rd rs1 : ℕ) (x : Operand) → writtenOf (format3Of op3 rd rs1 x) ≡ pick (isKnown (flowOf (format3Of op3 rd rs1 x))) (longWord 3 rd op3 rs1 x) (Unfit 0)
 unfolding format3Of writtenOf loadOp3 storeOp3 flowOf isKnown

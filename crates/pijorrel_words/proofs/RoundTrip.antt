@@ -15,19 +15,21 @@ use Rattle.numbers.proofs.Number.{number-packed}
 use Rattle.numbers.proofs.Bounds.{number-lt, extended-lt}
 use Rattle.words.specs.Conditions.{bitOf}
 use Rattle.words.specs.Reader.{bits, bitSet, operandOf, sources, rows0, format0Of, Format2, rows2, none2, format2Of, Format3, rows3, none3, format3Of, byFormat, instructionOf}
-use Rattle.words.specs.Writer.{arithmeticOp3, shiftOp3, loadOp3, storeOp3, writtenOf}
+use Rattle.words.specs.Writer.{arithmeticOp3, shiftOp3, windowOp3, loadOp3, storeOp3, writtenOf}
 use Rattle.words.specs.declared.Operand.{Operand}
 use Rattle.words.specs.declared.Operand.the-variants.{Register, Constant}
 use Rattle.words.specs.declared.Operation.{Operation}
 use Rattle.words.specs.declared.Operation.the-variants.{Add, And, Or, Xor, Sub, Andn, Orn, Xnor, Addx, Subx, Umul, Smul}
 use Rattle.words.specs.declared.ShiftOperation.{ShiftOperation}
 use Rattle.words.specs.declared.ShiftOperation.the-variants.{Sll, Srl, Sra}
+use Rattle.words.specs.declared.WindowOperation.{WindowOperation}
+use Rattle.words.specs.declared.WindowOperation.the-variants.{Save, Restore}
 use Rattle.words.specs.declared.LoadOperation.{LoadOperation}
 use Rattle.words.specs.declared.LoadOperation.the-variants.{Ld, Ldub, Lduh, Ldsb, Ldsh}
 use Rattle.words.specs.declared.Width.{Width}
 use Rattle.words.specs.declared.Width.the-variants.{Byte, Half, Word}
 use Rattle.words.specs.declared.Instruction.{Instruction}
-use Rattle.words.specs.declared.Instruction.the-variants.{Illegal, Call, Sethi, Bicc, Arithmetic, Jmpl, Ticc, Load, Store, Shift, Rdy, Wry}
+use Rattle.words.specs.declared.Instruction.the-variants.{Illegal, Call, Sethi, Bicc, Arithmetic, Jmpl, Ticc, Load, Store, Shift, Rdy, Wry, Window}
 use Rattle.words.specs.declared.Written.{Written}
 use Rattle.words.specs.declared.Written.the-variants.{Fit, Unfit}
 use Rattle.words.proofs.Strict.{left-strictly}
@@ -66,12 +68,12 @@ module _ (form annul rd rs1 mark v : ℕ) (l : v < 2 ^ 32) where
 
   by-op : (a b : Bool) → eqb (form / 64) 2 ≡ a → eqb (form / 64) 3 ≡ b
       → Normal (pick a (format2Of (form % 64) rd rd rs1 (operandFrom mark v)) (pick b (format3Of (form % 64) rd rs1 (operandFrom mark v)) Illegal))
-  unfolding format2Of format3Of sixOf arithmeticOp3 shiftOp3 loadOp3 storeOp3 hasOperand
+  unfolding format2Of format3Of sixOf arithmeticOp3 shiftOp3 windowOp3 loadOp3 storeOp3 hasOperand
   by-op true b p q =
       let h : form / 64 ≡ 2 = eqb-true (form / 64) 2 p in
       let e : form ≡ 2 * 64 + form % 64 = omega arith in
       found-all (λ (key : ℕ) (f : Format2). form % 64 ≡ key → Normal (f rd rd rs1 (operandFrom mark v))) rows2 none2 (form % 64)
-      (r e 0 refl, (r e 1 refl, (r e 2 refl, (r e 3 refl, (r e 4 refl, (r e 5 refl, (r e 6 refl, (r e 7 refl, (r e 8 refl, (r e 10 refl, (r e 11 refl, (r e 12 refl, (r e 16 refl, (r e 17 refl, (r e 18 refl, (r e 19 refl, (r e 20 refl, (r e 21 refl, (r e 22 refl, (r e 23 refl, (r e 24 refl, (r e 26 refl, (r e 27 refl, (r e 28 refl, (r e 37 refl, (r e 38 refl, (r e 39 refl, (λ f n. rdy-normal form annul rd rs1 mark v (omega arith), (r e 48 refl, (r e 56 refl, (r e 58 refl, tt)))))))))))))))))))))))))))))))
+      (r e 0 refl, (r e 1 refl, (r e 2 refl, (r e 3 refl, (r e 4 refl, (r e 5 refl, (r e 6 refl, (r e 7 refl, (r e 8 refl, (r e 10 refl, (r e 11 refl, (r e 12 refl, (r e 16 refl, (r e 17 refl, (r e 18 refl, (r e 19 refl, (r e 20 refl, (r e 21 refl, (r e 22 refl, (r e 23 refl, (r e 24 refl, (r e 26 refl, (r e 27 refl, (r e 28 refl, (r e 37 refl, (r e 38 refl, (r e 39 refl, (λ f n. rdy-normal form annul rd rs1 mark v (omega arith), (r e 48 refl, (r e 56 refl, (r e 58 refl, (r e 60 refl, (r e 61 refl, tt)))))))))))))))))))))))))))))))))
       (λ f n. absurd (n refl)) refl
     where
       r : {B : Type 0} → form ≡ 2 * 64 + form % 64 → (key : ℕ) → hasOperand (2 * 64 + key) ≡ true → form % 64 ≡ key → B
@@ -135,6 +137,7 @@ shortAll (Store w rd rs1 x) = short rd && (short rs1 && shortOperand x)
 shortAll (Shift o rd rs1 x) = short rd && (short rs1 && shortOperand x)
 shortAll (Rdy rd) = short rd
 shortAll (Wry s) = short (s .rs1) && shortOperand (s .operand)
+shortAll (Window o rd rs1 x) = short rd && (short rs1 && shortOperand x)
 
 -- a field that was cut, and one whose sign was extended
 cut-short : (word low n : ℕ) → n ≤ 32 → short (bits word low n) ≡ true
@@ -237,6 +240,11 @@ store-from Byte rd rs1 = (omega arith, λ mark v. refl)
 store-from Half rd rs1 = (omega arith, λ mark v. refl)
 store-from Word rd rs1 = (omega arith, λ mark v. refl)
 
+window-from : (o : WindowOperation) (rd rs1 : ℕ) → From (128 + windowOp3 o) rd rs1 (Window o rd rs1)
+unfolding windowOp3 instructionFrom byOp format2Of
+window-from Save rd rs1 = (omega arith, λ mark v. refl)
+window-from Restore rd rs1 = (omega arith, λ mark v. refl)
+
 jmpl-from : (rd rs1 : ℕ) → From 184 rd rs1 (Jmpl rd rs1)
 unfolding instructionFrom byOp format2Of
 jmpl-from rd rs1 = (omega arith, λ mark v. refl)
@@ -307,6 +315,7 @@ each-again (Rdy rd) n h =
     six-again (Rdy rd) 168 0 rd 0 0 0
     (record { same = refl; low = (omega arith, (omega arith, (below rd h, (omega arith, (omega arith, (omega arith, tt)))))); back = rdy-from rd })
 each-again (Wry s) n h = operand-again (λ x. Wry (sources (s .rs1) x)) _ 0 (s .rs1) (s .operand) (wry-from (s .rs1)) refl h
+each-again (Window o rd rs1 x) n h = operand-again (Window o rd rs1) _ rd rs1 x (window-from o rd rs1) refl h
 
 -- a form that is not 0 is an instruction's
 known : (i : Instruction) → (numberAt (bytesOf (sixOf i)) 0 ≡ 0 → ⊥) → i ≡ Illegal → ⊥

@@ -9,11 +9,11 @@ use Rattle.numbers.specs.Choice.{pick, find}
 use Rattle.numbers.specs.Number.{numberAt, bytesOf}
 use Rattle.words.specs.Conditions.{bitOf}
 use Rattle.words.specs.Reader.{format2Of, format3Of, instructionOf}
-use Rattle.words.specs.Writer.{arithmeticOp3, shiftOp3, loadOp3, storeOp3, writtenOf}
+use Rattle.words.specs.Writer.{arithmeticOp3, shiftOp3, windowOp3, loadOp3, storeOp3, writtenOf}
 use Rattle.words.specs.declared.Operand.{Operand}
 use Rattle.words.specs.declared.Operand.the-variants.{Register, Constant}
 use Rattle.words.specs.declared.Instruction.{Instruction}
-use Rattle.words.specs.declared.Instruction.the-variants.{Illegal, Call, Sethi, Bicc, Arithmetic, Jmpl, Ticc, Load, Store, Shift, Rdy, Wry}
+use Rattle.words.specs.declared.Instruction.the-variants.{Illegal, Call, Sethi, Bicc, Arithmetic, Jmpl, Ticc, Load, Store, Shift, Rdy, Wry, Window}
 use Rattle.words.specs.declared.Written.{Written}
 use Rattle.words.specs.declared.Written.the-variants.{Fit, Unfit}
 
@@ -35,6 +35,7 @@ sixOf (Store w rd rs1 x) = withOperand (192 + storeOp3 w) rd rs1 x
 sixOf (Shift o rd rs1 x) = withOperand (128 + shiftOp3 o) rd rs1 x
 sixOf (Rdy rd) = 168 ∷ 0 ∷ rd ∷ 0 ∷ 0 ∷ 0 ∷ []
 sixOf (Wry s) = withOperand 176 0 (s .rs1) (s .operand)
+sixOf (Window o rd rs1 x) = withOperand (128 + windowOp3 o) rd rs1 x
 
 -- a mark of 0 is a register's, any other a constant's
 unfoldable pub operandFrom : ℕ → ℕ → Operand

@@ -187,6 +187,7 @@ fn six_of(i: Instruction) -> Six
             let x = s.operand;
             six_with(176, 0, s.rs1, x)
         }
+        Instruction::Window(o, rd, rs1, x) => six_with(128 + words::window_op3(o), rd, rs1, x),
     }
 }
 

@@ -11,7 +11,7 @@ use mathlib.Core.Path.{_≡_, refl, sym}
 use Prim.Native.Nat.{ℕ}
 use Rattle.words.specs.declared.Operand.{Operand}
 use Rattle.words.specs.declared.Operand.the-variants.{Constant}
-use Rattle.words.specs.declared.Instruction.the-variants.{Illegal, Call, Sethi, Bicc, Arithmetic, Jmpl, Ticc, Load, Store, Shift, Rdy, Wry}
+use Rattle.words.specs.declared.Instruction.the-variants.{Illegal, Call, Sethi, Bicc, Arithmetic, Jmpl, Ticc, Load, Store, Shift, Rdy, Wry, Window}
 use Rattle.words.specs.declared.Instruction.{Instruction}
 use Rattle.words.specs.declared.Flow.the-variants.{Traps, Continues}
 use Rattle.words.specs.Flow.{flowOf}
@@ -39,6 +39,7 @@ by-flow f h (Store w rd rs1 x) = refl
 by-flow f h (Shift o rd rs1 x) = refl
 by-flow f h (Rdy rd) = refl
 by-flow f h (Wry s) = refl
+by-flow f h (Window o rd rs1 x) = refl
 
 -- a branch that may be held: condition 0, no annul
 each : (w : Which) → idleBicc w true ≡ false

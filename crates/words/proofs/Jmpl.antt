@@ -8,7 +8,7 @@ use Rattle.numbers.proofs.Choice.{either, found-passes}
 use Rattle.words.proofs.Strict.{left-strictly}
 use Rattle.words.specs.declared.Operand.{Operand}
 use Rattle.words.specs.declared.Instruction.{Instruction}
-use Rattle.words.specs.declared.Instruction.the-variants.{Illegal, Call, Sethi, Bicc, Arithmetic, Jmpl, Ticc, Load, Store, Shift, Rdy, Wry}
+use Rattle.words.specs.declared.Instruction.the-variants.{Illegal, Call, Sethi, Bicc, Arithmetic, Jmpl, Ticc, Load, Store, Shift, Rdy, Wry, Window}
 use Rattle.words.specs.Reader.{bits, operandOf, rows0, format0Of, rows2, none2, format2Of, rows3, none3, format3Of, byFormat, registerStrays, unusedSet, strictly, instructionOf, asJmpl}
 
 -- a jmpl is in format 2, with op3 56, and nowhere else
@@ -25,6 +25,7 @@ noJmpl (Store w rd rs1 x) = true
 noJmpl (Shift o rd rs1 x) = true
 noJmpl (Rdy rd) = true
 noJmpl (Wry s) = true
+noJmpl (Window o rd rs1 x) = true
 
 as-illegal : (i : Instruction) → noJmpl i ≡ true → Illegal ≡ asJmpl i
 unfolding asJmpl
@@ -40,6 +41,7 @@ as-illegal (Store w rd rs1 x) e = refl
 as-illegal (Shift o rd rs1 x) e = refl
 as-illegal (Rdy rd) e = refl
 as-illegal (Wry s) e = refl
+as-illegal (Window o rd rs1 x) e = refl
 
 none-left : (word : ℕ) (i : Instruction) → noJmpl i ≡ true → Illegal ≡ asJmpl (strictly word i)
 none-left word i e = as-illegal (strictly word i) (left-strictly (λ (j : Instruction). noJmpl j ≡ true) word i refl e)

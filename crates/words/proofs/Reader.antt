@@ -6,10 +6,11 @@ use native.Mathlib.Omega.{arith}
 use lib.Bits.{bitAnd, and-mask, mask-lt}
 use Rattle.numbers.specs.Number.{minus, signed}
 use Rattle.numbers.proofs.Number.{extend-by-sum}
-use Rattle.numbers.proofs.Choice.{Misses, find-none}
+use Rattle.numbers.specs.Choice.{find}
+use Rattle.numbers.proofs.Choice.{Misses, find-behind, find-none}
 use Rattle.words.specs.declared.Operand.{Operand}
 use Rattle.words.specs.declared.Instruction.the-variants.{Illegal}
-use Rattle.words.specs.Reader.{bits, rows0, format0Of, Format2, rows2, none2, format2Of, Format3, rows3, none3, format3Of, byFormat, strictly, instructionOf}
+use Rattle.words.specs.Reader.{bits, rows0, format0Of, Format2, none2, arithmeticRows, otherRows, format2Of, Format3, rows3, none3, format3Of, byFormat, strictly, instructionOf}
 
 -- the low bits of a word
 pub low-bits : (word width : ℕ) → bitAnd word (2 ^ width - 1) ≡ bits word 0 width
@@ -25,9 +26,13 @@ extended h width word v q e f l =
     rw (f, ← e, ← q) (extend-by-sum h v b l)
 
 -- a field that is in no row chooses an illegal word
-pub no-row2 : (op3 cond rd rs1 : ℕ) (x : Operand) → Misses (Unit {0}) rows2 op3 → Illegal ≡ format2Of op3 cond rd rs1 x
+pub no-row-other : (op3 cond rd rs1 : ℕ) (x : Operand) → Misses (Unit {0}) otherRows op3 → Illegal ≡ find otherRows none2 op3 cond rd rs1 x
+no-row-other op3 cond rd rs1 x m = sym (ap (λ (f : Format2). f cond rd rs1 x) (find-none otherRows none2 op3 m))
+
+-- one that is in no row of arithmetic is left to the others
+pub behind-row2 : (op3 cond rd rs1 : ℕ) (x : Operand) → Misses (Unit {0}) arithmeticRows op3 → find otherRows none2 op3 cond rd rs1 x ≡ format2Of op3 cond rd rs1 x
 unfolding format2Of
-no-row2 op3 cond rd rs1 x m = sym (ap (λ (f : Format2). f cond rd rs1 x) (find-none rows2 none2 op3 m))
+behind-row2 op3 cond rd rs1 x m = sym (ap (λ (f : Format2). f cond rd rs1 x) (find-behind arithmeticRows otherRows none2 op3 m))
 
 pub no-row3 : (op3 rd rs1 : ℕ) (x : Operand) → Misses (Unit {0}) rows3 op3 → Illegal ≡ format3Of op3 rd rs1 x
 unfolding format3Of

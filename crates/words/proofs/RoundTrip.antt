@@ -18,15 +18,17 @@ use Rattle.words.specs.declared.Operation.{Operation}
 use Rattle.words.specs.declared.Operation.the-variants.{Add, And, Or, Xor, Sub, Andn, Orn, Xnor, Addx, Subx, Umul, Smul}
 use Rattle.words.specs.declared.ShiftOperation.{ShiftOperation}
 use Rattle.words.specs.declared.ShiftOperation.the-variants.{Sll, Srl, Sra}
+use Rattle.words.specs.declared.WindowOperation.{WindowOperation}
+use Rattle.words.specs.declared.WindowOperation.the-variants.{Save, Restore}
 use Rattle.words.specs.declared.LoadOperation.{LoadOperation}
 use Rattle.words.specs.declared.LoadOperation.the-variants.{Ld, Ldub, Lduh, Ldsb, Ldsh}
 use Rattle.words.specs.declared.Width.{Width}
 use Rattle.words.specs.declared.Width.the-variants.{Byte, Half, Word}
 use Rattle.words.specs.declared.Instruction.{Instruction}
-use Rattle.words.specs.declared.Instruction.the-variants.{Illegal, Call, Sethi, Bicc, Arithmetic, Jmpl, Ticc, Load, Store, Shift, Rdy, Wry}
+use Rattle.words.specs.declared.Instruction.the-variants.{Illegal, Call, Sethi, Bicc, Arithmetic, Jmpl, Ticc, Load, Store, Shift, Rdy, Wry, Window}
 use Rattle.words.specs.declared.Written.the-variants.{Fit}
 use Rattle.words.specs.Reader.{bits, bitSet, operandOf, sources, rows0, format0Of, Format2, rows2, none2, format2Of, Format3, rows3, none3, format3Of, byFormat, setFrom, registerStrays, rdyStrays, wryStrays, unusedSet, strictly, instructionOf}
-use Rattle.words.specs.Writer.{Field, plain, withSign, joined, operand, constant13, constant7, constant5, arithmeticOp3, shiftOp3, loadOp3, storeOp3, longWord, shiftWord, rdyWord, wryWord, trapWord, sethiWord, branchWord, callWord, writtenOf}
+use Rattle.words.specs.Writer.{Field, plain, withSign, joined, operand, constant13, constant7, constant5, arithmeticOp3, shiftOp3, windowOp3, loadOp3, storeOp3, longWord, shiftWord, rdyWord, wryWord, trapWord, sethiWord, branchWord, callWord, writtenOf}
 use Rattle.words.specs.RoundTrip.{ReadsBack, WritesAgain}
 use Rattle.words.proofs.Strict.{and-false, or-clear}
 use Rattle.words.proofs.Joined.{total, Sounds, Has, Holds, plain-sound, sign-sound, joined-holds, joined-back, read-fits, fits-read}
@@ -215,12 +217,24 @@ shift-row Sll cond rd rs1 x = refl
 shift-row Srl cond rd rs1 x = refl
 shift-row Sra cond rd rs1 x = refl
 
+window-row : (o : WindowOperation) (cond rd rs1 : ℕ) (x : Operand) → format2Of (windowOp3 o) cond rd rs1 x ≡ Window o rd rs1 x
+unfolding windowOp3 format2Of
+window-row Save cond rd rs1 x = refl
+window-row Restore cond rd rs1 x = refl
+
 arithmetic-back : (o : Operation) (cc : Bool) (rd rs1 : ℕ) (x : Operand) (w : ℕ) → longWord 2 rd (arithmeticOp3 o cc) rs1 x ≡ Fit w → instructionOf w ≡ Arithmetic o cc rd rs1 x
 unfolding longWord unusedSet
 arithmetic-back o cc rd rs1 x w e =
     let l = front-read 2 rd (arithmeticOp3 o cc) rs1 w constant13 room-13 x (omega arith) e in
     let p = operand-13 w x (l .rest) in
     read-2 w rd _ rs1 x _ _ l (p .0) (λ cond. arithmetic-row o cc cond rd rs1 x) (p .1)
+
+window-back : (o : WindowOperation) (rd rs1 : ℕ) (x : Operand) (w : ℕ) → longWord 2 rd (windowOp3 o) rs1 x ≡ Fit w → instructionOf w ≡ Window o rd rs1 x
+unfolding longWord unusedSet
+window-back o rd rs1 x w e =
+    let l = front-read 2 rd (windowOp3 o) rs1 w constant13 room-13 x (omega arith) e in
+    let p = operand-13 w x (l .rest) in
+    read-2 w rd _ rs1 x _ _ l (p .0) (λ cond. window-row o cond rd rs1 x) (p .1)
 
 jmpl-back : (rd rs1 : ℕ) (x : Operand) (w : ℕ) → longWord 2 rd 56 rs1 x ≡ Fit w → instructionOf w ≡ Jmpl rd rs1 x
 unfolding longWord unusedSet format2Of
@@ -326,6 +340,7 @@ reads-back (Store m rd rs1 x) w e = store-back m rd rs1 x w e
 reads-back (Shift o rd rs1 x) w e = shift-back o rd rs1 x w e
 reads-back (Rdy rd) w e = rdy-back rd w e
 reads-back (Wry s) w e = wry-back (s .rs1) (s .operand) w e
+reads-back (Window o rd rs1 x) w e = window-back o rd rs1 x w e
 
 -- ---- a known word is written again
 
@@ -455,10 +470,10 @@ module _ (w : ℕ) (h : w < 2 ^ 32) where
   again-1 e = again (withSign 30 (signed 30 (bits w 0 30)) ∷ []) 1 refl e (sign-30 w, tt)
 
   again-2 : bits w 30 2 ≡ 2 → Again (format2Of (bits w 19 6) (bits w 25 4) (bits w 25 5) (bits w 14 5) (operandOf w))
-  unfolding format2Of writtenOf unusedSet arithmeticOp3 shiftOp3 longWord shiftWord rdyWord wryWord setFrom rdyStrays wryStrays
+  unfolding format2Of writtenOf unusedSet arithmeticOp3 shiftOp3 windowOp3 longWord shiftWord rdyWord wryWord setFrom rdyStrays wryStrays
   again-2 e =
       found-all (λ (key : ℕ) (f : Format2). bits w 19 6 ≡ key → Again (f (bits w 25 4) (bits w 25 5) (bits w 14 5) (operandOf w))) rows2 none2 (bits w 19 6)
-      (long 0, (long 1, (long 2, (long 3, (long 4, (long 5, (long 6, (long 7, (long 8, (long 10, (long 11, (long 12, (long 16, (long 17, (long 18, (long 19, (long 20, (long 21, (long 22, (long 23, (long 24, (long 26, (long 27, (long 28, (shift 37, (shift 38, (shift 39, (rdy, (wry, (long 56, (λ f u n. trap-again e f u, tt)))))))))))))))))))))))))))))))
+      (long 0, (long 1, (long 2, (long 3, (long 4, (long 5, (long 6, (long 7, (long 8, (long 10, (long 11, (long 12, (long 16, (long 17, (long 18, (long 19, (long 20, (long 21, (long 22, (long 23, (long 24, (long 26, (long 27, (long 28, (shift 37, (shift 38, (shift 39, (rdy, (wry, (long 56, (λ f u n. trap-again e f u, (long 60, (long 61, tt)))))))))))))))))))))))))))))))))
       (λ f u n. absurd (n refl)) refl
     where
       long : {B : Type 0} (key : ℕ) → bits w 19 6 ≡ key → registerStrays w ≡ false → B → longWord 2 (bits w 25 5) key (bits w 14 5) (operandOf w) ≡ Fit w

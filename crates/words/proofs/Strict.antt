@@ -10,7 +10,7 @@ use Rattle.numbers.specs.Number.{minus}
 use Rattle.numbers.proofs.Choice.{both, either, found-passes}
 use Rattle.words.specs.declared.Operand.{Operand}
 use Rattle.words.specs.declared.Instruction.{Instruction}
-use Rattle.words.specs.declared.Instruction.the-variants.{Illegal, Call, Sethi, Bicc, Arithmetic, Jmpl, Ticc, Load, Store, Shift, Rdy, Wry}
+use Rattle.words.specs.declared.Instruction.the-variants.{Illegal, Call, Sethi, Bicc, Arithmetic, Jmpl, Ticc, Load, Store, Shift, Rdy, Wry, Window}
 use Rattle.words.specs.Reader.{bits, bitSet, operandOf, rows0, format0Of, rows2, none2, format2Of, rows3, none3, format3Of, byFormat, setFrom, registerStrays, rdyStrays, wryStrays, unusedSet, strictly, instructionOf}
 use Rattle.words.specs.Flow.{operandStrays, isKnown}
 use Rattle.words.specs.declared.Flow.{Flow}
@@ -56,6 +56,7 @@ illegal (Store w rd rs1 x) = false
 illegal (Shift o rd rs1 x) = false
 illegal (Rdy rd) = false
 illegal (Wry s) = false
+illegal (Window o rd rs1 x) = false
 
 only-one : (i : Instruction) → illegal i ≡ true → Illegal ≡ i
 only-one Illegal e = refl
@@ -70,6 +71,7 @@ only-one (Store w rd rs1 x) e = absurd (false≢true e)
 only-one (Shift o rd rs1 x) e = absurd (false≢true e)
 only-one (Rdy rd) e = absurd (false≢true e)
 only-one (Wry s) e = absurd (false≢true e)
+only-one (Window o rd rs1 x) e = absurd (false≢true e)
 
 register-set : (word : ℕ) → registerStrays word ≡ true → setFrom 5 word ≡ true
 unfolding registerStrays
@@ -177,6 +179,7 @@ nothing-set (Store w rd rs1 x) = refl
 nothing-set (Shift o rd rs1 x) = refl
 nothing-set (Rdy rd) = refl
 nothing-set (Wry s) = refl
+nothing-set (Window o rd rs1 x) = refl
 
 pub nothing-strays-y : (rdyStrays 0 ≡ false) × (wryStrays 0 ≡ false)
 unfolding rdyStrays wryStrays bits

@@ -5,7 +5,7 @@ use mathlib.Core.Bool.{Bool, true, false, _&&_, _||_}
 use lib.Dec.{eqb, leb, ltb}
 use Rattle.words.specs.Reader.{setFrom, registerStrays}
 use Rattle.words.specs.declared.Instruction.{Instruction}
-use Rattle.words.specs.declared.Instruction.the-variants.{Illegal, Call, Sethi, Bicc, Arithmetic, Jmpl, Ticc, Load, Store, Shift, Rdy, Wry}
+use Rattle.words.specs.declared.Instruction.the-variants.{Illegal, Call, Sethi, Bicc, Arithmetic, Jmpl, Ticc, Load, Store, Shift, Rdy, Wry, Window}
 use Rattle.words.specs.declared.Flow.{Flow}
 use Rattle.words.specs.declared.Flow.the-variants.{Faults, Continues, Traps, Calls, Branches, Jumps}
 
@@ -26,6 +26,7 @@ flowOf (Store w rd rs1 x) = Continues
 flowOf (Shift o rd rs1 x) = Continues
 flowOf (Rdy rd) = Continues
 flowOf (Wry s) = Continues
+flowOf (Window o rd rs1 x) = Continues
 
 -- what an illegal word alone does not do
 unfoldable pub isKnown : Flow → Bool

@@ -1,7 +1,7 @@
 -- 01: "Each word reads as one instruction whose second operand is a register or a signed 13-bit constant."
 use Prim.Native.Nat.{ℕ, zero, suc, _-_, _/_, _%_, _^_}
 use mathlib.Core.Bool.{Bool, true, false, not, _&&_, _||_}
-use mathlib.Core.List.{List, [], _∷_}
+use mathlib.Core.List.{List, [], _∷_, _++_}
 use lib.Dec.{eqb}
 use Rattle.numbers.specs.Choice.{pick, find}
 use Rattle.numbers.specs.Number.{signed}
@@ -10,10 +10,11 @@ use Rattle.words.specs.declared.Operand.the-variants.{Register, Constant
 use Rattle.words.specs.declared.Sources.{Sources}
 use Rattle.words.specs.declared.Operation.the-variants.{Add, And, Or, Xor, Sub, Andn, Orn, Xnor, Addx, Subx, Umul, Smul}
 use Rattle.words.specs.declared.ShiftOperation.the-variants.{Sll, Srl, Sra}
+use Rattle.words.specs.declared.WindowOperation.the-variants.{Save, Restore}
 use Rattle.words.specs.declared.LoadOperation.the-variants.{Ld, Ldub, Lduh, Ldsb, Ldsh}
 use Rattle.words.specs.declared.Width.the-variants.{Byte, Half, Word}
 use Rattle.words.specs.declared.Instruction.{Instruction}
-use Rattle.words.specs.declared.Instruction.the-variants.{Illegal, Call, Sethi, Bicc, Arithmetic, Jmpl, Ticc, Load, Store, Shift, Rdy, Wry}
+use Rattle.words.specs.declared.Instruction.the-variants.{Illegal, Call, Sethi, Bicc, Arithmetic, Jmpl, Ticc, Load, Store, Shift, Rdy, Wry, Window}
 
 -- "the other fields are cut from it as V8 draws them": so many bits of a word, from the lowest of them
 unfoldable pub bits : ℕ → ℕ → ℕ → ℕ
@@ -38,15 +39,15 @@ unfoldable pub format0Of : ℕ → Instruction
 format0Of word = find (rows0 word) Illegal (bits word 22 3)
 
 -- format 2, by op3: what the word reads as, from its fields cond, rd, rs1 and its second operand. 02, N4: "Add umul, smul, umulcc, smulcc, rdy and
--- wry from V8"
+-- wry from V8"; N11: "Compiled images use save and restore, now illegal. Add V8's windows"
 abbrev pub Format2 : Type 0
 Format2 = ℕ → ℕ → ℕ → Operand → Instruction
 
 abbrev pub none2 : Format2
 none2 cond rd rs1 x = Illegal
 
-abbrev pub rows2 : List (ℕ × Format2)
-rows2 =
+abbrev pub arithmeticRows : List (ℕ × Format2)
+arithmeticRows =
     (0, λ cond rd rs1 x. Arithmetic Add false rd rs1 x)
     ∷ (1, λ cond rd rs1 x. Arithmetic And false rd rs1 x)
     ∷ (2, λ cond rd rs1 x. Arithmetic Or false rd rs1 x)
@@ -71,14 +72,23 @@ rows2 =
     ∷ (26, λ cond rd rs1 x. Arithmetic Umul true rd rs1 x)
     ∷ (27, λ cond rd rs1 x. Arithmetic Smul true rd rs1 x)
     ∷ (28, λ cond rd rs1 x. Arithmetic Subx true rd rs1 x)
-    ∷ (37, λ cond rd rs1 x. Shift Sll rd rs1 x)
+    ∷ []
+
+abbrev pub otherRows : List (ℕ × Format2)
+otherRows =
+    (37, λ cond rd rs1 x. Shift Sll rd rs1 x)
     ∷ (38, λ cond rd rs1 x. Shift Srl rd rs1 x)
     ∷ (39, λ cond rd rs1 x. Shift Sra rd rs1 x)
     ∷ (40, λ cond rd rs1 x. Rdy rd)
     ∷ (48, λ cond rd rs1 x. Wry (sources rs1 x))
     ∷ (56, λ cond rd rs1 x. Jmpl rd rs1 x)
     ∷ (58, λ cond rd rs1 x. Ticc cond rs1 x)
+    ∷ (60, λ cond rd rs1 x. Window Save rd rs1 x)
+    ∷ (61, λ cond rd rs1 x. Window Restore rd rs1 x)
     ∷ []
+
+abbrev pub rows2 : List (ℕ × Format2)
+rows2 = arithmeticRows ++ otherRows
 
 unfoldable pub format2Of : ℕ → Format2
 format2Of op3 = find rows2 none2 op3
@@ -141,6 +151,7 @@ unusedSet (Store w rd rs1 x) word = registerStrays word
 unusedSet (Shift o rd rs1 x) word = setFrom 5 word
 unusedSet (Rdy rd) word = rdyStrays word
 unusedSet (Wry s) word = registerStrays word || wryStrays word
+unusedSet (Window o rd rs1 x) word = registerStrays word
 
 unfoldable pub strictly : ℕ → Instruction → Instruction
 strictly word i = pick (unusedSet i word) Illegal i
@@ -167,3 +178,4 @@ asJmpl (Store w rd rs1 x) = Illegal
 asJmpl (Shift o rd rs1 x) = Illegal
 asJmpl (Rdy rd) = Illegal
 asJmpl (Wry s) = Illegal
+asJmpl (Window o rd rs1 x) = Illegal

@@ -12,12 +12,14 @@ use Rattle.words.specs.declared.Operation.{Operation}
 use Rattle.words.specs.declared.Operation.the-variants.{Add, And, Or, Xor, Sub, Andn, Orn, Xnor, Addx, Subx, Umul, Smul}
 use Rattle.words.specs.declared.ShiftOperation.{ShiftOperation}
 use Rattle.words.specs.declared.ShiftOperation.the-variants.{Sll, Srl, Sra}
+use Rattle.words.specs.declared.WindowOperation.{WindowOperation}
+use Rattle.words.specs.declared.WindowOperation.the-variants.{Save, Restore}
 use Rattle.words.specs.declared.LoadOperation.{LoadOperation}
 use Rattle.words.specs.declared.LoadOperation.the-variants.{Ld, Ldub, Lduh, Ldsb, Ldsh}
 use Rattle.words.specs.declared.Width.{Width}
 use Rattle.words.specs.declared.Width.the-variants.{Byte, Half, Word}
 use Rattle.words.specs.declared.Instruction.{Instruction}
-use Rattle.words.specs.declared.Instruction.the-variants.{Illegal, Call, Sethi, Bicc, Arithmetic, Jmpl, Ticc, Load, Store, Shift, Rdy, Wry}
+use Rattle.words.specs.declared.Instruction.the-variants.{Illegal, Call, Sethi, Bicc, Arithmetic, Jmpl, Ticc, Load, Store, Shift, Rdy, Wry, Window}
 use Rattle.words.specs.declared.Written.{Written}
 use Rattle.words.specs.declared.Written.the-variants.{Fit, Unfit}
 
@@ -82,6 +84,10 @@ shiftOp3 Sll = 37
 shiftOp3 Srl = 38
 shiftOp3 Sra = 39
 
+unfoldable pub windowOp3 : WindowOperation → ℕ
+windowOp3 Save = 60
+windowOp3 Restore = 61
+
 unfoldable pub loadOp3 : LoadOperation → ℕ
 loadOp3 Ld = 0
 loadOp3 Ldub = 1
@@ -134,3 +140,5 @@ writtenOf (Store w rd rs1 x) = longWord 3 rd (storeOp3 w) rs1 x
 writtenOf (Shift o rd rs1 x) = shiftWord rd (shiftOp3 o) rs1 x
 writtenOf (Rdy rd) = rdyWord rd
 writtenOf (Wry s) = wryWord (s .rs1) (s .operand)
+-- 02, N11: "N2's writer gains both words"
+writtenOf (Window o rd rs1 x) = longWord 2 rd (windowOp3 o) rs1 x

@@ -3,17 +3,18 @@ ghost use mathlib.Core.Path.{_≡_};
 ghost use mathlib.Core.Bool.{false, _||_};
 ghost use mathlib.Core.List.{List, [], _∷_};
 ghost use Prim.Native.Nat.{ℕ, _+_, _-_, _^_, _<_, _≤_, min};
+ghost use Rattle.numbers.specs.Choice.{find};
 ghost use Rattle.numbers.specs.Number.{signed};
 ghost use Rattle.words.specs.declared.Operand.{Operand};
 ghost use Rattle.words.specs.declared.ShiftOperation.{ShiftOperation};
 ghost use Rattle.words.specs.declared.Sources.{Sources};
-ghost use Rattle.words.specs.declared.Instruction.the-variants.{Arithmetic, Jmpl, Ticc, Load, Store, Shift, Rdy, Wry};
-ghost use Rattle.words.specs.Reader.{bits, bitSet, registerStrays, setFrom, rdyStrays, wryStrays, strictly, operandOf, sources, format0Of, format2Of, format3Of, instructionOf, isUnimp, asJmpl};
+ghost use Rattle.words.specs.declared.Instruction.the-variants.{Arithmetic, Jmpl, Ticc, Load, Store, Shift, Rdy, Wry, Window};
+ghost use Rattle.words.specs.Reader.{bits, bitSet, registerStrays, setFrom, rdyStrays, wryStrays, strictly, operandOf, sources, format0Of, none2, otherRows, format2Of, format3Of, instructionOf, isUnimp, asJmpl};
 ghost use Rattle.words.specs.Conditions.{bitAt, bitOf, holdsOf};
 ghost use Rattle.words.specs.Flow.{operandStrays, flowOf, isKnown};
 ghost use Rattle.words.specs.declared.Operand.the-variants.{Register};
 ghost use Rattle.words.specs.declared.Written.the-variants.{Fit};
-ghost use Rattle.words.specs.Writer.{Field, plain, withSign, behind, joined, operand, constant13, constant7, constant5, arithmeticOp3, shiftOp3, loadOp3, storeOp3, longWord, shiftWord, rdyWord, wryWord, trapWord, sethiWord, branchWord, callWord, writtenOf};
+ghost use Rattle.words.specs.Writer.{Field, plain, withSign, behind, joined, operand, constant13, constant7, constant5, arithmeticOp3, shiftOp3, windowOp3, loadOp3, storeOp3, longWord, shiftWord, rdyWord, wryWord, trapWord, sethiWord, branchWord, callWord, writtenOf};
 
 // The second operand: a register, or a constant. A shift's constant has 5 bits and a Ticc's 7; any other is a signed one of 13, extended to 32.
 pub enum Operand {
@@ -41,6 +42,12 @@ pub enum ShiftOperation {
     Sll,
     Srl,
     Sra,
+}
+
+// Into the next register window and back.
+pub enum WindowOperation {
+    Save,
+    Restore,
 }
 
 // A byte and a half are loaded with or without their sign extended.
@@ -92,6 +99,8 @@ pub enum Instruction {
     Rdy(u32),
     // rs1, second operand
     Wry(Sources),
+    // operation, rd, rs1, second operand
+    Window(WindowOperation, u32, u32, Operand),
 }
 
 // ---- the fields of a word, as V8 draws them
@@ -286,6 +295,15 @@ fn shift(o: ShiftOperation, word: u32) -> Instruction
     Instruction::Shift(o, rd(word), rs1(word), second_operand(word))
 }
 
+fn window(o: WindowOperation, word: u32) -> Instruction
+    ensures { λ r. ⌜ r ≡ strictly word (Window o (bits word 25 5) (bits word 14 5) (operandOf word)) ⌝ }
+{
+    if register_strays(word) {
+        return Instruction::Illegal;
+    }
+    Instruction::Window(o, rd(word), rs1(word), second_operand(word))
+}
+
 fn trap(word: u32) -> Instruction
     ensures { λ r. ⌜ r ≡ strictly word (Ticc (bits word 25 4) (bits word 14 5) (operandOf word)) ⌝ }
 {
@@ -351,7 +369,25 @@ fn format0(word: u32) -> Instruction
     }
 }
 
-// Format 2, by op3: arithmetic, shifts, Y, jmpl and Ticc.
+// Format 2, by op3: shifts, Y, jmpl, Ticc and windows.
+fn other2(op3: u32, word: u32) -> Instruction
+    ensures { λ r. ⌜ r ≡ strictly word (find otherRows none2 op3 (bits word 25 4) (bits word 25 5) (bits word 14 5) (operandOf word)) ⌝ }
+{
+    match op3 {
+        37 => shift(ShiftOperation::Sll, word),
+        38 => shift(ShiftOperation::Srl, word),
+        39 => shift(ShiftOperation::Sra, word),
+        40 => rdy(word),
+        48 => wry(word),
+        56 => jump(word),
+        58 => trap(word),
+        60 => window(WindowOperation::Save, word),
+        61 => window(WindowOperation::Restore, word),
+        _ => Instruction::Illegal,
+    }
+}
+
+// Format 2, by op3: arithmetic, and the others.
 fn format2(op3: u32, word: u32) -> Instruction
     ensures { λ r. ⌜ r ≡ strictly word (format2Of op3 (bits word 25 4) (bits word 25 5) (bits word 14 5) (operandOf word)) ⌝ }
 {
@@ -380,14 +416,7 @@ fn format2(op3: u32, word: u32) -> Instruction
         26 => arithmetic(Operation::Umul, true, word),
         27 => arithmetic(Operation::Smul, true, word),
         28 => arithmetic(Operation::Subx, true, word),
-        37 => shift(ShiftOperation::Sll, word),
-        38 => shift(ShiftOperation::Srl, word),
-        39 => shift(ShiftOperation::Sra, word),
-        40 => rdy(word),
-        48 => wry(word),
-        56 => jump(word),
-        58 => trap(word),
-        _ => Instruction::Illegal,
+        _ => other2(op3, word),
     }
 }
 
@@ -520,6 +549,24 @@ fn wry_flow(word: u32) -> Flow
     Flow::Continues
 }
 
+fn other_flow2(op3: u32, cond: u32, rd: u32, word: u32) -> Flow
+    requires { ⌜ (operandStrays op3 word ≡ false) × (op3 ≡ 40 → rdyStrays word ≡ false) × (op3 ≡ 48 → wryStrays word ≡ false) ⌝ }
+    ensures { λ r. ⌜ ((rs1 : ℕ) (x : Operand) → r ≡ flowOf (strictly word (find otherRows none2 op3 cond rd rs1 x))) ⌝ }
+{
+    match op3 {
+        37 => Flow::Continues,
+        38 => Flow::Continues,
+        39 => Flow::Continues,
+        40 => Flow::Continues,
+        48 => Flow::Continues,
+        56 => Flow::Jumps(rd),
+        58 => trap_flow(cond, word),
+        60 => Flow::Continues,
+        61 => Flow::Continues,
+        _ => Flow::Faults,
+    }
+}
+
 fn flow2(op3: u32, cond: u32, rd: u32, word: u32) -> Flow
     requires { ⌜ (operandStrays op3 word ≡ false) × (op3 ≡ 40 → rdyStrays word ≡ false) × (op3 ≡ 48 → wryStrays word ≡ false) ⌝ }
     ensures { λ r. ⌜ ((rs1 : ℕ) (x : Operand) → r ≡ flowOf (strictly word (format2Of op3 cond rd rs1 x))) ⌝ }
@@ -549,14 +596,7 @@ fn flow2(op3: u32, cond: u32, rd: u32, word: u32) -> Flow
         26 => Flow::Continues,
         27 => Flow::Continues,
         28 => Flow::Continues,
-        37 => Flow::Continues,
-        38 => Flow::Continues,
-        39 => Flow::Continues,
-        40 => Flow::Continues,
-        48 => Flow::Continues,
-        56 => Flow::Jumps(rd),
-        58 => trap_flow(cond, word),
-        _ => Flow::Faults,
+        _ => other_flow2(op3, cond, rd, word),
     }
 }
 
@@ -829,6 +869,15 @@ pub fn shift_op3(o: ShiftOperation) -> u32
     }
 }
 
+pub fn window_op3(o: WindowOperation) -> u32
+    ensures { λ r. ⌜ (r ≡ windowOp3 o) × (r < 64) ⌝ }
+{
+    match o {
+        WindowOperation::Save => 60,
+        WindowOperation::Restore => 61,
+    }
+}
+
 pub fn load_op3(o: LoadOperation) -> u32
     ensures { λ r. ⌜ (r ≡ loadOp3 o) × (r < 64) ⌝ }
 {
@@ -877,6 +926,7 @@ pub fn write_instruction(i: Instruction) -> Written
             let x = s.operand;
             wry_word(s.rs1, x)
         }
+        Instruction::Window(o, rd, rs1, x) => long_word(2, rd, window_op3(o), rs1, x),
     }
 }
 

@@ -6,6 +6,7 @@ use crate::files::{
     new_begin_case, new_run_case, old_begin_case, old_run_case, read_case, translate_case,
     write_case,
 };
+use crate::machine::WINDOWED;
 use crate::new_core::number;
 use crate::random::{
     random_large_program, random_lengths, random_new_run_call, random_old_run_call,
@@ -33,10 +34,14 @@ fn random_bytes(random: &mut Random, limit: u32) -> Vec<u8> {
     (0..length).map(|_| random.word() as u8).collect()
 }
 
-/// Now and then a state of any bytes.
+/// Now and then a state of any bytes, half of these with a nesting that is not far too large.
 fn loosen_state(random: &mut Random, state: &mut [u8]) {
     if random.chance(10) {
         state.fill_with(|| random.word() as u8);
+        if random.chance(50) {
+            let nesting = state.len() - 4 * (1 + WINDOWED);
+            state[nesting..nesting + 4].copy_from_slice(&random.below(9).to_be_bytes());
+        }
     }
 }
 
@@ -215,9 +220,9 @@ fn fitting_numbers(random: &mut Random) -> Numbers {
         let any = random.word();
         *number = random.pick(&[0, 1, 2, 0x8000_0000, any]);
     }
-    // Call, Bicc, sethi, the shifts, rdy, wry and Ticc have fields of their own.
+    // Call, Bicc, sethi, the shifts, rdy, wry and Ticc have fields of their own; save and restore are to be met often.
     numbers[0] = if random.chance(40) {
-        random.pick(&[64, 2, 4, 165, 166, 167, 168, 176, 186])
+        random.pick(&[64, 2, 4, 165, 166, 167, 168, 176, 186, 188, 189])
     } else {
         random.pick(&forms())
     };

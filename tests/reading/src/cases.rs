@@ -6,8 +6,8 @@ use crate::machine::Area;
 use crate::new_core;
 use crate::old_core::{self, Image};
 use crate::random::{
-    ample_lengths, damage_some, random_address, random_lengths, random_plain, random_program,
-    random_start, random_y, rename_first_record, spoil_entries, Program, Random,
+    ample_lengths, damage_some, random_address, random_lengths, random_nesting, random_plain,
+    random_program, random_start, random_y, rename_first_record, spoil_entries, Program, Random,
 };
 use crate::trails::{new_begun, new_trail, new_trail_of_run, old_trail, Trail};
 use crate::translator::{translate, Refusal, Translation};
@@ -192,6 +192,7 @@ impl Asked {
             let (y, flags) = (random_y(random), random.below(16));
             return Start {
                 y,
+                nesting: random_nesting(random),
                 flags,
                 ..Start::at(address)
             };

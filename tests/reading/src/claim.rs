@@ -2,7 +2,7 @@
 
 use std::collections::HashSet;
 
-use crate::machine::{Area, End, Machine, DATA_LIMIT};
+use crate::machine::{Area, End, Machine, DATA_LIMIT, DEEPEST, WINDOWED};
 use crate::new_core::{self, Program};
 use crate::old_core::{self, Image};
 use crate::places::Place;
@@ -10,12 +10,15 @@ use crate::trails::{new_begun, new_trail, old_trail, Trail};
 use crate::words::Flags;
 
 /// "for each core, any address with a plain place to begin at and any registers, flags and data"; 02, N4: "demand 3
-/// takes any Y".
+/// takes any Y"; N11: "demand 3 takes any windows and any nesting from 0 to 6, and a nesting handed in above 6 counts as
+/// 6".
 #[derive(Clone, PartialEq, Eq, Debug)]
 pub struct Start {
     pub address: u32,
     pub registers: [u32; 32],
     pub y: u32,
+    pub nesting: u32,
+    pub windows: [u32; WINDOWED],
     pub flags: u32,
     pub data: Vec<u8>,
 }
@@ -27,6 +30,8 @@ impl Start {
             address,
             registers: [0; 32],
             y: 0,
+            nesting: 0,
+            windows: [0; WINDOWED],
             flags: 0,
             data: vec![],
         }
@@ -34,6 +39,18 @@ impl Start {
 
     pub fn machine(&self) -> Machine {
         Machine::of(self.registers, self.y, Flags::of_number(self.flags))
+            .within(self.nesting, self.windows)
+    }
+
+    /// The windows as an entry shows them: from the current window's ins on, ins, locals and outs are 24 numbers in a
+    /// row, where registers 24 to 31, 16 to 23 and 8 to 15 stand. (The nesting is below 7, so they end before the ring does.)
+    pub fn shown_windows(&self) -> [u32; WINDOWED] {
+        let first = 16 * self.nesting.min(DEEPEST) as usize;
+        let mut windows = self.windows;
+        windows[first..first + 8].copy_from_slice(&self.registers[24..]);
+        windows[first + 8..first + 16].copy_from_slice(&self.registers[16..24]);
+        windows[first + 16..first + 24].copy_from_slice(&self.registers[8..16]);
+        windows
     }
 
     /// Whether a trail's first entry is this start.
@@ -44,6 +61,8 @@ impl Start {
                 && entry.registers[0] == 0
                 && entry.registers[1..] == self.registers[1..]
                 && entry.y == self.y
+                && entry.nesting == self.nesting.min(DEEPEST)
+                && entry.windows == self.shown_windows()
                 && entry.flags == self.flags % 16
                 && entry.data == self.data[..existing]
         })

@@ -25,6 +25,8 @@ const CONSTANT: u32 = 1 << 13;
 const UMUL: u32 = 0x8250_4002; // umul of registers 1 and 2 to register 1
 const WRY: u32 = 0x8180_4002; // wry of registers 1 and 2
 const RDY: u32 = 0x8340_0000; // rdy to register 1
+const SAVE: u32 = 0x9DE3_8001; // save of registers 14 and 1 to register 14
+const RESTORE: u32 = 0x91EE_0001; // restore of registers 24 and 1 to register 8
 const ILLEGAL: u32 = 0;
 const UNIMP: u32 = 12; // as gcc puts it behind the call of a function that returns 12 bytes
 const OTHER: u32 = 0x0040_0000; // illegal too, but its op2 is not 0
@@ -629,6 +631,51 @@ fn products_and_y_in_slots() -> Vec<Edge> {
     edges
 }
 
+/// 02, N11: "Translation treats them as words that don't transfer." Save and restore with each bit of the second operand,
+/// of rs1 and of rd, with a register and with a constant.
+fn save_and_restore() -> Vec<Edge> {
+    let of = |op3: u32| 2 << 30 | op3 << 19;
+    let mut edges = vec![];
+    for word in [60, 61].map(of) {
+        edges.push(known_or_not(word, true));
+        edges.push(known_or_not(word | CONSTANT, true));
+        edges.extend((0..13).map(|bit| known_or_not(word | 1 << bit, bit < 5)));
+        edges.extend((0..13).map(|bit| known_or_not(word | CONSTANT | 1 << bit, true)));
+        let registers = (14..19).chain(25..30);
+        edges.extend(registers.map(|bit| known_or_not(word | 1 << bit, true)));
+    }
+    // beside them: rett, flush, and op3 that V8 leaves to coprocessors or out
+    edges.extend([55, 57, 59, 62, 63].map(|op3| known_or_not(of(op3), false)));
+    // with op 3: no load or store of these
+    edges.extend([60, 61].map(|op3| known_or_not(of(op3) | 1 << 30, false)));
+    edges
+}
+
+/// The same words in delay slots, as compiled functions have them: held by a jmpl, with records 1 and 6; of a call and of a
+/// branch, in slot places; and more saves than there are windows, which is no matter of the translator's.
+fn save_and_restore_in_slots() -> Vec<Edge> {
+    let in_slot = |word, answer| edge(&[over(BA, 3), word, ADD, TA], 0, &[0], answer);
+    let mut edges = vec![];
+    for word in [SAVE, RESTORE] {
+        edges.push(held(word, (0, 2, 4)));
+        edges.push(held(word | 1 << 12, (0, 2, 3)));
+        // plain 0, (4, 12), plain 12: one 5, then 1 and 5, then one 1
+        edges.push(in_slot(word, (0, 3, 4)));
+        edges.push(in_slot(word | 1 << 5, (0, 2, 2)));
+        // plain 0, (4, 16), plain 8, plain 16: 2 and 5, 1 and 5, one 1, one 1
+        edges.push(edge(&[CALL | 4, word, TA, ILLEGAL, TA], 0, &[0], (0, 4, 6)));
+        // every one of nine has records 1 and 5
+        let nine = [vec![word; 9], vec![TA]].concat();
+        edges.push(edge(&nine, 0, &[0], (0, 10, 19)));
+    }
+    // a routine: save, call, nop, ret, restore; plain 0, plain 4, (8, 0), plain 12, held 16
+    let ret = 0x81C7_E008; // jmpl register 31, constant 8, to register 0
+    let routine = [SAVE, CALL | 0x3FFF_FFFF, NOP, ret, RESTORE];
+    edges.push(edge(&routine, 0, &[0], (0, 5, 10)));
+    edges.push(edge(&routine, 0, &[0], (5, 16, 0)).lent(4 * PLACE, 160 * RECORD));
+    edges
+}
+
 /// Refusals 5 and 6 on 01's listing, which has three places and four records.
 fn short_buffers() -> Vec<Edge> {
     let lend = |places, records, answer| edge(&LISTED, 0, &[0], answer).lent(places, records);
@@ -770,6 +817,8 @@ pub fn edges() -> Vec<Edge> {
         unused_bits_of_jmpl(),
         products_and_y(),
         products_and_y_in_slots(),
+        save_and_restore(),
+        save_and_restore_in_slots(),
         short_buffers(),
         across_the_top(),
         most_places(),
@@ -787,7 +836,7 @@ pub fn edges_file() -> Vec<u8> {
 }
 
 /// Inputs of the listing program, each with how its output starts: 01's, conditional branches, a call that returns a record,
-/// a product with Y, around 0 and 1,024 bytes, a refusal of each number that it can meet, and 512 and 513 places.
+/// a product with Y, save and restore, around 0 and 1,024 bytes, a refusal of each number that it can meet, and 512 and 513 places.
 pub fn listings() -> Vec<(Vec<u8>, &'static str)> {
     let zeros = |length| vec![0; length];
     // be to far outside, but for some adds at the end: plain places of 256 words and the end, a slot after each be,
@@ -808,6 +857,9 @@ pub fn listings() -> Vec<(Vec<u8>, &'static str)> {
         (bytes([RETURN, LINK_BY_REGISTER]), "refused detail\n4 4\n"),
         (bytes([0x8180_2005, 0x82D0_4002, 0x8540_0000, TA]), "place address next kind record\n0 0 4 0 0\n1 4 8 0 2\n2 8 12 0 4\n3 12 16 0 6\nkind first second\n1 2172657669 0\n5 2 0\n1 2194685954 0\n5 4 0\n1 2235564032 0\n5 6 0\n1 2446336000 0\n"),
         (bytes([RDY | 1 << 14, TA]), "place address next kind record\n0 0 4 0 0\nkind first second\n7 3 0\n"),
+        (bytes([0x9DE3_BFA0, 0x91EE_0001, TA]), "place address next kind record\n0 0 4 0 0\n1 4 8 0 2\n2 8 12 0 4\nkind first second\n1 2648948640 0\n5 2 0\n1 2448293889 0\n5 4 0\n1 2446336000 0\n"),
+        (bytes([RETURN, RESTORE]), "place address next kind record\n0 0 4 0 0\n1 4 0 2 2\nkind first second\n3 2177097736 0\n5 2 0\n1 2448293889 0\n6 0 0\n"),
+        (bytes([SAVE | 1 << 5, TA]), "place address next kind record\n0 0 4 0 0\nkind first second\n7 3 0\n"),
         (zeros(0), "refused detail\n1 0\n"),
         (zeros(1), "refused detail\n1 1\n"),
         (zeros(3), "refused detail\n1 3\n"),

@@ -29,6 +29,6 @@ pub mod couples;
 pub mod random;
 
 pub mod calls;
+pub mod cases;
 pub mod edges;
 pub mod files;
-pub mod cases;

@@ -23,6 +23,9 @@ pub enum End {
     /// "7 a record past the last, of unknown kind, with an unfit word ..., a condition above 15 or a
     /// kind 7 whose first is not 2 or 3, with the record number."
     BadRecord(u32),
+    /// 02, N11: "Two ends are added after 7: 8, too many saves; 9, too many restores, each with the nesting."
+    TooManySaves(u32),
+    TooManyRestores(u32),
 }
 
 impl End {
@@ -37,10 +40,12 @@ impl End {
             End::DoesNotFit(address) => (5, address),
             End::NoPlace(address) => (6, address),
             End::BadRecord(record) => (7, record),
+            End::TooManySaves(nesting) => (8, nesting),
+            End::TooManyRestores(nesting) => (9, nesting),
         }
     }
 
-    /// Ends 1 to 7 count as ended, with their number; any other counts as still going.
+    /// Ends 1 to 9 count as ended, with their number; any other counts as still going.
     pub fn of_numbers(end: u32, number: u32) -> End {
         match end {
             1 => End::Trap(number),
@@ -50,52 +55,135 @@ impl End {
             5 => End::DoesNotFit(number),
             6 => End::NoPlace(number),
             7 => End::BadRecord(number),
+            8 => End::TooManySaves(number),
+            9 => End::TooManyRestores(number),
             _ => End::Going,
         }
     }
 }
 
-/// "32 registers of 32 bits, flags N, Z, V, C"; 02, N4: "The state and each trail entry gain Y".
+/// 02, N11: "eight, of which seven can be in use, so nesting 0 to 6".
+pub const WINDOWS: usize = 8;
+pub const DEEPEST: u32 = 6;
+
+/// The ins and locals of eight windows, eight of each.
+pub const WINDOWED: usize = 16 * WINDOWS;
+
+/// Where a register from 8 to 31 stands among the 128, as the header has them: block w has window w's ins, then its
+/// locals; its outs are the ins of window w + 1, and window 7's those of window 0.
+fn windowed(window: usize, register: usize) -> usize {
+    let next = (window + 1) % WINDOWS;
+    match register {
+        8..=15 => 16 * next + (register - 8),
+        16..=23 => 16 * window + 8 + (register - 16),
+        24..=31 => 16 * window + (register - 24),
+        _ => panic!("registers 8 to 31 have a window"),
+    }
+}
+
+/// "32 registers of 32 bits, flags N, Z, V, C"; 02, N4: "The state and each trail entry gain Y"; N11: "Add V8's
+/// windows". There is one number for each register of each window, and no copy of the current window: which 24 of the
+/// 128 registers 8 to 31 are is a matter of the nesting.
 #[derive(Clone, PartialEq, Eq, Debug)]
 pub struct Machine {
-    registers: [u32; 32],
+    globals: [u32; 8],
+    windows: [u32; WINDOWED],
+    nesting: u32,
     pub y: u32,
     pub flags: Flags,
 }
 
 impl Machine {
-    /// "The start values are all registers 0 and all flags clear." 02, N4: Y is "0 among the start values".
+    /// "The start values are all registers 0 and all flags clear." 02, N4: Y is "0 among the start values"; N11: "the
+    /// start values are 0 throughout".
     pub fn start() -> Machine {
         Machine {
-            registers: [0; 32],
+            globals: [0; 8],
+            windows: [0; WINDOWED],
+            nesting: 0,
             y: 0,
             flags: Flags::CLEAR,
         }
     }
 
-    /// Any registers, Y and flags; "Register 0 reads and shows as 0."
-    pub fn of(mut registers: [u32; 32], y: u32, flags: Flags) -> Machine {
-        registers[0] = 0;
-        Machine {
-            registers,
-            y,
-            flags,
+    /// Any registers, Y and flags, in window 0.
+    pub fn of(registers: [u32; 32], y: u32, flags: Flags) -> Machine {
+        let mut machine = Machine::start();
+        machine.put_registers(&registers);
+        machine.y = y;
+        machine.flags = flags;
+        machine
+    }
+
+    /// The same with any nesting and windows: "a nesting handed in above 6 counts as 6"; registers 8 to 31 count, and
+    /// the 24 numbers that repeat them are not looked at.
+    pub fn within(self, nesting: u32, windows: [u32; WINDOWED]) -> Machine {
+        let registers = self.registers();
+        let mut machine = self;
+        machine.nesting = nesting.min(DEEPEST);
+        machine.windows = windows;
+        machine.put_registers(&registers);
+        machine
+    }
+
+    fn put_registers(&mut self, registers: &[u32; 32]) {
+        for (register, value) in registers.iter().enumerate() {
+            self.write(register, *value);
         }
     }
 
-    pub fn registers(&self) -> &[u32; 32] {
-        &self.registers
+    /// Those of the current window, as a state has them.
+    pub fn registers(&self) -> [u32; 32] {
+        std::array::from_fn(|register| self.read(register))
     }
 
+    /// Every window, the current one among them.
+    pub fn windows(&self) -> &[u32; WINDOWED] {
+        &self.windows
+    }
+
+    pub fn nesting(&self) -> u32 {
+        self.nesting
+    }
+
+    /// "Register 0 reads and shows as 0."
     pub fn read(&self, register: usize) -> u32 {
-        self.registers[register]
+        match register {
+            0 => 0,
+            1..=7 => self.globals[register],
+            _ => self.windows[windowed(self.nesting as usize, register)],
+        }
     }
 
     /// A write to register 0 is lost.
     pub fn write(&mut self, register: usize, value: u32) {
-        if register != 0 {
-            self.registers[register] = value;
+        match register {
+            0 => {}
+            1..=7 => self.globals[register] = value,
+            _ => self.windows[windowed(self.nesting as usize, register)] = value,
         }
+    }
+
+    /// 02, N11: "Save and restore add like add, reading in the old window and writing rd in the new. A save at 6 or a
+    /// restore at 0 ends the run and changes nothing."
+    fn save(&mut self, rd: usize, rs1: usize, operand: Operand) -> Result<(), End> {
+        if self.nesting == DEEPEST {
+            return Err(End::TooManySaves(self.nesting));
+        }
+        let sum = self.sum(rs1, operand);
+        self.nesting += 1;
+        self.write(rd, sum);
+        Ok(())
+    }
+
+    fn restore(&mut self, rd: usize, rs1: usize, operand: Operand) -> Result<(), End> {
+        if self.nesting == 0 {
+            return Err(End::TooManyRestores(self.nesting));
+        }
+        let sum = self.sum(rs1, operand);
+        self.nesting -= 1;
+        self.write(rd, sum);
+        Ok(())
     }
 
     pub fn operand(&self, operand: Operand) -> u32 {
@@ -165,8 +253,9 @@ impl<'a> Area<'a> {
 }
 
 /// The effect of a word that does not transfer control. "Ends 1 to 7 change no register, flag, counter,
-/// held address or data." 02, N4, of Y: "no end changes it". Calls, jmpl and branches are the cores' own; a
-/// Bicc 0 without annul is also a word that does nothing.
+/// held address or data." 02, N4, of Y: "no end changes it"; with N11 these are ends 1 to 9, and nesting and
+/// windows too. Calls, jmpl and branches are the cores' own; a Bicc 0 without annul is also a word that does
+/// nothing.
 pub fn effect(instruction: Instruction, machine: &mut Machine, area: &mut Area) -> Result<(), End> {
     match instruction {
         Instruction::Sethi { rd, value } => machine.write(rd, value),
@@ -230,6 +319,8 @@ pub fn effect(instruction: Instruction, machine: &mut Machine, area: &mut Area) 
         Instruction::WriteY { rs1, operand } => {
             machine.y = machine.read(rs1) ^ machine.operand(operand);
         }
+        Instruction::Save { rd, rs1, operand } => machine.save(rd, rs1, operand)?,
+        Instruction::Restore { rd, rs1, operand } => machine.restore(rd, rs1, operand)?,
         // "1 Ticc taken, with (rs1 + operand) modulo 128."
         Instruction::Ticc {
             condition,
@@ -414,6 +505,24 @@ mod tests {
             assert_eq!(product(false, right, left), unsigned);
             assert_eq!(product(true, left, right), signed);
             assert_eq!(product(true, right, left), signed);
+        }
+    }
+
+    /// V8's figure of windows: each number of the 128 is a local of one window, or an in of one and an out of the one
+    /// before it.
+    #[test]
+    fn windows_overlap_as_drawn() {
+        for window in 0..WINDOWS {
+            let before = (window + WINDOWS - 1) % WINDOWS;
+            for k in 0..8 {
+                assert_eq!(windowed(window, 24 + k), windowed(before, 8 + k));
+                assert_eq!(windowed(window, 24 + k), 16 * window + k);
+                assert_eq!(windowed(window, 16 + k), 16 * window + 8 + k);
+            }
+            let mut met: Vec<usize> = (8..32).map(|r| windowed(window, r)).collect();
+            met.sort();
+            met.dedup();
+            assert_eq!(met.len(), 24);
         }
     }
 

@@ -32,23 +32,26 @@
 //!   address ADDRESS                     where both cores begin
 //!   registers R0 ... R31                R0 any number; it counts as 0
 //!   y NUMBER
+//!   nesting NUMBER                      any number; one above 6 counts as 6
+//!   windows N0 ... N127                 those that repeat registers 8 to 31 any numbers; they do not count
 //!   flags NUMBER                        8N + 4Z + 2V + C
 //!   data BYTE...                        maybe none
 //!   cut K                               1 to 12
 //!   answer NUMBER FIRST SECOND          0, place count, record count; or refusal, detail, 0
 //! * place ADDRESS NEXT KIND RECORD      in place order; none for a refusal
 //! * record KIND FIRST SECOND            in record order; none for a refusal
-//! * old ADDRESS R0 ... R31 Y FLAGS BYTE...   an entry of the old core's trail
+//! * old ADDRESS R0 ... R31 Y NESTING N0 ... N127 FLAGS BYTE...   an entry of the old core's trail
 //!   old_close END NUMBER
 //!   old_steps STEPS...                  from each entry to the next; the last, to the close
 //!   old_next ADDRESS...                 nPC at each entry
-//! * new ADDRESS R0 ... R31 Y FLAGS BYTE...   an entry of the new core's trail over the translation
+//! * new ADDRESS R0 ... R31 Y NESTING N0 ... N127 FLAGS BYTE...   an entry of the new core's trail over the
+//!                                       translation
 //! ? new_close END NUMBER                only for an accepted image
 //! ? new_steps STEPS...
 //! ? malformed_places BYTE...            for about half of the accepted images: a damaged place table
 //! ? malformed_records BYTE...           and damaged records
 //! ? malformed_count COUNT               of the run over them
-//! * malformed ADDRESS R0 ... R31 Y FLAGS BYTE...   an entry of that run's trail
+//! * malformed ADDRESS R0 ... R31 Y NESTING N0 ... N127 FLAGS BYTE...   an entry of that run's trail
 //! ? malformed_close END NUMBER          0 0 where the count was done
 //! ? malformed_steps STEPS...
 //!   done
@@ -143,6 +146,8 @@ fn print_start(out: &mut impl Write, start: &Start) -> io::Result<()> {
     line(out, "address", [start.address])?;
     line(out, "registers", start.registers)?;
     line(out, "y", [start.y])?;
+    line(out, "nesting", [start.nesting])?;
+    line(out, "windows", start.windows)?;
     line(out, "flags", [start.flags])?;
     line(out, "data", &start.data)
 }
@@ -162,7 +167,9 @@ fn print_trail(out: &mut impl Write, name: &str, trail: &Trail) -> io::Result<()
 fn entry_numbers(entry: &Entry) -> Vec<u32> {
     let mut numbers = vec![entry.address];
     numbers.extend(entry.registers);
-    numbers.extend([entry.y, entry.flags]);
+    numbers.extend([entry.y, entry.nesting]);
+    numbers.extend(entry.windows);
+    numbers.push(entry.flags);
     numbers.extend(entry.data.iter().map(|byte| *byte as u32));
     numbers
 }

@@ -84,8 +84,8 @@ impl Program<'_> {
     }
 }
 
-/// The new core's state: registers, Y and flags as the old core's, a record number, the held address, and
-/// how the run ended.
+/// The new core's state: registers, windows, Y and flags as the old core's, a record number, the held address,
+/// and how the run ended.
 #[derive(Clone, PartialEq, Eq, Debug)]
 pub struct NewState {
     pub machine: Machine,
@@ -174,7 +174,7 @@ fn carry_out(program: Program, state: &mut NewState, area: &mut Area) -> Result<
         5 => Ok(record.first),
         // "6 go by the held address"
         6 => program.seek(state.held),
-        // "7 end as first says, at address second"
+        // "7 end as first says, at address second"; no other end is said so, 8 and 9 neither
         7 => match record.first {
             2 => Err(End::Outside(record.second)),
             3 => Err(End::Illegal(record.second)),

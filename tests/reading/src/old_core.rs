@@ -36,8 +36,8 @@ impl<'a> Image<'a> {
     }
 }
 
-/// "State: 32 registers of 32 bits, flags N, Z, V, C, PC, nPC, annul, and how the run ended." 02, N4: and Y,
-/// which is the machine's.
+/// "State: 32 registers of 32 bits, flags N, Z, V, C, PC, nPC, annul, and how the run ended." 02, N4: and Y;
+/// N11: nesting and windows; these are the machine's.
 #[derive(Clone, PartialEq, Eq, Debug)]
 pub struct OldState {
     pub machine: Machine,

@@ -1,6 +1,7 @@
 //! Random images, entry lists, starts and calls, each determined by a seed.
 
 use crate::claim::{Accepted, Start};
+use crate::machine::WINDOWED;
 use crate::new_core::number;
 use crate::old_core::{lies_in_image, Image};
 use crate::places::{made_by_the_rules, walk, Place, Stop};
@@ -79,7 +80,7 @@ const EDGES: [u32; 12] = [
 /// Registers by what a start mostly puts into them.
 const ADDRESS_REGISTERS: [u32; 4] = [8, 9, 10, 11];
 const DATA_REGISTERS: [u32; 3] = [12, 13, 14];
-const NUMBER_REGISTERS: [u32; 6] = [1, 2, 3, 4, 30, 31];
+const NUMBER_REGISTERS: [u32; 8] = [1, 2, 3, 4, 17, 24, 30, 31];
 
 /// An image with what belongs to it. Words are whole; tails are added to calls only.
 #[derive(Clone, Debug)]
@@ -163,24 +164,28 @@ const LOAD: usize = 6;
 const STORE: usize = 7;
 const SETHI: usize = 8;
 const PRODUCT: usize = 9;
-const KINDS: usize = 10;
+const WINDOW: usize = 10;
+const KINDS: usize = 11;
 
 /// How often each kind of word stands in an image.
-const STYLES: [[u32; KINDS]; 6] = [
-    [88, 10, 0, 2, 0, 0, 0, 0, 0, 0],
-    [60, 7, 8, 3, 2, 8, 3, 2, 1, 6],
-    [33, 6, 12, 5, 2, 14, 9, 7, 2, 10],
-    [20, 10, 30, 4, 1, 11, 10, 4, 1, 9],
-    [15, 3, 6, 5, 1, 35, 12, 10, 3, 10],
-    [15, 3, 5, 4, 1, 10, 6, 5, 2, 49],
+const STYLES: [[u32; KINDS]; 7] = [
+    [88, 10, 0, 2, 0, 0, 0, 0, 0, 0, 0],
+    [60, 7, 8, 3, 2, 6, 3, 2, 1, 4, 4],
+    [33, 6, 12, 5, 2, 12, 9, 7, 2, 6, 6],
+    [20, 10, 30, 4, 1, 9, 10, 4, 1, 5, 6],
+    [15, 3, 6, 5, 1, 29, 12, 10, 3, 8, 8],
+    [15, 3, 5, 4, 1, 10, 6, 5, 2, 41, 8],
+    [15, 4, 6, 4, 1, 14, 6, 5, 2, 3, 40],
 ];
 
 /// Words that transfer control, and words that a held place may have.
-const BACK: [u32; KINDS] = [70, 10, 15, 5, 0, 0, 0, 0, 0, 0];
-const HARMLESS: [u32; KINDS] = [0, 0, 0, 2, 1, 18, 8, 6, 2, 15];
+const BACK: [u32; KINDS] = [70, 10, 15, 5, 0, 0, 0, 0, 0, 0, 0];
+const HARMLESS: [u32; KINDS] = [0, 0, 0, 2, 1, 15, 8, 6, 2, 10, 10];
 
 const RDY: u32 = 0b101000;
 const WRY: u32 = 0b110000;
+const SAVE: u32 = 0b111100;
+const RESTORE: u32 = 0b111101;
 
 fn format_3(op: u32, op3: u32, rd: u32, rs1: u32, operand: u32) -> u32 {
     (op << 30) | (rd << 25) | (op3 << 19) | (rs1 << 14) | operand
@@ -302,10 +307,10 @@ fn clean_word(random: &mut Random, style: &[u32; KINDS], position: i32, program:
             0 => 0,
             // unimp, FBfcc, CBccc and the other op2 values
             1 => (random.pick(&[0, 1, 3, 5, 6, 7]) << 22) | (random.word() & 0x3E3F_FFFF),
-            // divisions, mulscc, other state registers than Y, rett, flush, save, restore
+            // divisions, mulscc, other state registers than Y, rett, flush, and what stands behind restore
             2 => {
                 let op3 = random.pick(&[
-                    0x0E, 0x0F, 0x1E, 0x24, RDY, 0x29, WRY, 0x31, 0x39, 0x3B, 0x3C, 0x3D,
+                    0x0E, 0x0F, 0x1E, 0x24, RDY, 0x29, WRY, 0x31, 0x39, 0x3B, 0x3E, 0x3F,
                 ]);
                 format_3(
                     2,
@@ -352,6 +357,7 @@ fn clean_word(random: &mut Random, style: &[u32; KINDS], position: i32, program:
             random_access(random, op3, rd, program)
         }
         PRODUCT => random_product(random),
+        WINDOW => random_window(random),
         _ => {
             debug_assert_eq!(SETHI, 8);
             let rd = number_register(random);
@@ -385,6 +391,27 @@ fn random_product(random: &mut Random) -> u32 {
         with_stray_bit(random, word)
     } else {
         word
+    }
+}
+
+/// A save or restore: mostly with any registers, since each is another one in the new window, and often as compilers
+/// write them.
+fn random_window(random: &mut Random) -> u32 {
+    let op3 = random.pick(&[SAVE, RESTORE]);
+    match random.weighted(&[15, 10, 50, 25]) {
+        0 => format_3(2, SAVE, 14, 14, constant(-96)),
+        1 => format_3(2, RESTORE, 0, 0, 0),
+        2 => {
+            let (rd, rs1, rs2) = (random.below(32), random.below(32), random.below(32));
+            format_3(2, op3, rd, rs1, rs2)
+        }
+        _ => format_3(
+            2,
+            op3,
+            random.below(32),
+            random.below(32),
+            any_operand(random),
+        ),
     }
 }
 
@@ -446,7 +473,7 @@ pub(crate) fn random_jmpl(random: &mut Random, program: &Program) -> u32 {
 /// or a branch names them, and jumps by addresses of the image land without one.
 fn make_blocks(random: &mut Random, program: &mut Program) {
     let count = program.words.len() as i32;
-    let body = random.pick(&[STYLES[4], STYLES[5], STYLES[2]]);
+    let body = random.pick(&[STYLES[4], STYLES[5], STYLES[2], STYLES[6]]);
     let mut position = 0;
     while position < count {
         let length = random.between(0, 3);
@@ -597,28 +624,66 @@ pub(crate) fn allow_held_places(random: &mut Random, program: &mut Program) {
     }
 }
 
-/// A random start at an address; registers hold image addresses, data addresses and numbers.
-pub fn random_start(random: &mut Random, program: &Program, plain: &[u32], address: u32) -> Start {
-    let count = program.words.len() as i32;
-    let mut registers = [0; 32];
-    for (register, value) in registers.iter_mut().enumerate() {
-        *value = if ADDRESS_REGISTERS.contains(&(register as u32)) || random.chance(10) {
-            random_target(random, program, plain)
-        } else if DATA_REGISTERS.contains(&(register as u32)) {
-            match random.weighted(&[80, 10, 10]) {
-                0 => program.data_base,
-                1 => program.data_base.wrapping_add(random.between(-4, 8) as u32),
-                _ => random.word(),
-            }
-        } else {
-            match random.weighted(&[30, 30, 10, 30]) {
-                0 => random.pick(&EDGES),
-                1 => 4 * random.below(count as u32 + 1),
-                2 => program.data_base,
-                _ => random.word(),
-            }
+/// What a register holds at a start: an image address, a data address or a number.
+fn random_register(random: &mut Random, program: &Program, plain: &[u32], register: u32) -> u32 {
+    let count = program.words.len() as u32;
+    if ADDRESS_REGISTERS.contains(&register) || random.chance(10) {
+        return random_target(random, program, plain);
+    }
+    if DATA_REGISTERS.contains(&register) {
+        return match random.weighted(&[80, 10, 10]) {
+            0 => program.data_base,
+            1 => program.data_base.wrapping_add(random.between(-4, 8) as u32),
+            _ => random.word(),
         };
     }
+    match random.weighted(&[30, 30, 10, 30]) {
+        0 => random.pick(&EDGES),
+        1 => 4 * random.below(count + 1),
+        2 => program.data_base,
+        _ => random.word(),
+    }
+}
+
+/// Windows in which outs are what outs of a start are, so that programs go on behind a save or a restore.
+fn random_windows(random: &mut Random, program: &Program, plain: &[u32]) -> [u32; WINDOWED] {
+    std::array::from_fn(|k| {
+        let register = 8 + k as u32 % 16; // ins are outs of the window before
+        random_register(random, program, plain, register)
+    })
+}
+
+/// Any nesting from 0 to 6, the first and the last more often; now and then one above that.
+pub fn random_nesting(random: &mut Random) -> u32 {
+    match random.weighted(&[25, 20, 43, 7, 5]) {
+        0 => 0,
+        1 => 6,
+        2 => random.below(7),
+        3 => random.pick(&[7, 8, 9, 15, 16, 256, 0x0100_0000, 0x8000_0000, 0xFFFF_FFFF]),
+        _ => random.word(),
+    }
+}
+
+/// A random start at an address. Half of them have other windows than the registers that count.
+pub fn random_start(random: &mut Random, program: &Program, plain: &[u32], address: u32) -> Start {
+    let registers =
+        std::array::from_fn(|register| random_register(random, program, plain, register as u32));
+    let mut start = Start {
+        registers,
+        y: random_y(random),
+        nesting: random_nesting(random),
+        windows: random_windows(random, program, plain),
+        flags: random.below(16),
+        data: random_data(random, program, plain),
+        ..Start::at(address)
+    };
+    if random.chance(50) {
+        start.windows = start.shown_windows();
+    }
+    start
+}
+
+fn random_data(random: &mut Random, program: &Program, plain: &[u32]) -> Vec<u8> {
     let mut data = vec![];
     while data.len() < program.data_length as usize {
         let number = if random.chance(70) {
@@ -629,13 +694,7 @@ pub fn random_start(random: &mut Random, program: &Program, plain: &[u32], addre
         data.extend(number.to_be_bytes());
     }
     data.truncate(program.data_length as usize);
-    Start {
-        address,
-        registers,
-        y: random_y(random),
-        flags: random.below(16),
-        data,
-    }
+    data
 }
 
 pub fn random_y(random: &mut Random) -> u32 {
@@ -811,7 +870,8 @@ pub fn random_old_run_call(random: &mut Random) -> OldRunCall {
     };
     let (end, number) = random_end(random);
     let mut numbers = start_numbers(random, &start);
-    numbers.extend([address, next, annul, end, number, start.y]);
+    numbers.extend([address, next, annul, end, number, start.y, start.nesting]);
+    numbers.extend(start.windows);
     let mut state = [0; OLD_STATE];
     state.copy_from_slice(&bytes(numbers));
     OldRunCall {
@@ -863,7 +923,8 @@ pub fn random_new_run_call(random: &mut Random) -> NewRunCall {
     };
     let (end, number) = random_end(random);
     let mut numbers = start_numbers(random, &start);
-    numbers.extend([record, held, end, number, start.y]);
+    numbers.extend([record, held, end, number, start.y, start.nesting]);
+    numbers.extend(start.windows);
     let mut state = [0; NEW_STATE];
     state.copy_from_slice(&bytes(numbers));
     NewRunCall {
@@ -881,10 +942,11 @@ pub fn random_new_run_call(random: &mut Random) -> NewRunCall {
 /// Damages records and place table.
 pub fn damage_some(random: &mut Random, records: &mut Vec<u8>, places: &mut Vec<u8>) {
     for _ in 0..random.pick(&[1, 1, 2, 4]) {
-        match random.weighted(&[50, 20, 30]) {
+        match random.weighted(&[45, 18, 27, 10]) {
             0 => damage(random, records, 12),
             1 => stray_in_record(random, records),
-            _ => damage(random, places, 16),
+            2 => damage(random, places, 16),
+            _ => end_in_record(random, records),
         }
     }
 }
@@ -900,6 +962,17 @@ fn stray_in_record(random: &mut Random, records: &mut [u8]) {
     let record = random.pick(&with_words);
     let word = with_stray_bit(random, number(records, 3 * record + 1));
     records[12 * record + 4..12 * record + 8].copy_from_slice(&word.to_be_bytes());
+}
+
+/// Has a record end a run, mostly with an end that no record may say: those that it may, and 8 and 9, often.
+fn end_in_record(random: &mut Random, records: &mut [u8]) {
+    if records.len() < 12 {
+        return;
+    }
+    let record = random.below(records.len() as u32 / 12) as usize;
+    let first = random.pick(&[0, 1, 2, 3, 4, 5, 6, 7, 8, 8, 8, 9, 9, 9, 10]);
+    let numbers = bytes([7, first, random.below(8)]);
+    records[12 * record..12 * record + 12].copy_from_slice(&numbers);
 }
 
 /// Has a row name another first record: another row's, or one at the end of the records or past it.
@@ -963,10 +1036,10 @@ fn start_numbers(random: &mut Random, start: &Start) -> Vec<u32> {
 fn random_end(random: &mut Random) -> (u32, u32) {
     match random.weighted(&[85, 8, 4, 3]) {
         0 => (0, 0),
-        1 => (random.between(1, 7) as u32, random.word()),
+        1 => (random.between(1, 9) as u32, random.word()),
         2 => (0, random.word()),
         _ => (
-            random.pick(&[8, 9, 256, 0xFFFF_FFFF, 0x0100_0001]),
+            random.pick(&[10, 11, 16, 256, 264, 0xFFFF_FFFF, 0x0100_0001]),
             random.word(),
         ),
     }
@@ -1017,10 +1090,10 @@ pub fn random_accepted(random: &mut Random) -> (Program, Translation) {
     }
 }
 
-/// A start that differs from another in one thing, or, by register 0 or nothing, not at all.
+/// A start that differs from another in one thing, or, by what is not looked at or nothing, not at all.
 pub fn other_start(random: &mut Random, start: &Start, plain: &[u32]) -> Start {
     let mut other = start.clone();
-    match random.below(8) {
+    match random.below(10) {
         0 => other.address = random.pick(plain),
         1 => {
             let register = random.below(32) as usize;
@@ -1034,6 +1107,12 @@ pub fn other_start(random: &mut Random, start: &Start, plain: &[u32]) -> Start {
         3 | 4 => other.data.push(0),
         5 => other.registers[0] = random.word(),
         6 => other.y ^= 1 << random.below(32),
+        // where the nesting counts the same, or the number is the current window's, this is no difference
+        7 => other.nesting = random_nesting(random),
+        8 => {
+            let number = random.below(WINDOWED as u32) as usize;
+            other.windows[number] ^= 1 << random.below(32);
+        }
         _ => {}
     }
     other

@@ -1,16 +1,18 @@
 //! 01, "Records of the new core": trails of both cores.
 
-use crate::machine::{Area, End, Machine};
+use crate::machine::{Area, End, Machine, WINDOWED};
 use crate::new_core::{self, NewState, Program};
 use crate::old_core::{self, Image, OldState};
 
 /// "An entry is the address about to be executed, all registers, flags and data bytes" (demand 3). 02, N4: "each
-/// trail entry" gains Y.
+/// trail entry" gains Y; N11: "Trail entries show the nesting and every window".
 #[derive(Clone, PartialEq, Eq, Debug)]
 pub struct Entry {
     pub address: u32,
     pub registers: [u32; 32],
     pub y: u32,
+    pub nesting: u32,
+    pub windows: [u32; WINDOWED],
     pub flags: u32,
     pub data: Vec<u8>,
 }
@@ -18,8 +20,10 @@ pub struct Entry {
 fn entry(address: u32, machine: &Machine, area: &Area) -> Entry {
     Entry {
         address,
-        registers: *machine.registers(),
+        registers: machine.registers(),
         y: machine.y,
+        nesting: machine.nesting(),
+        windows: *machine.windows(),
         flags: machine.flags.number(),
         data: area.bytes().to_vec(),
     }

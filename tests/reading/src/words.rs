@@ -48,7 +48,8 @@ pub enum Store {
 
 /// "Words known: call; sethi; the sixteen integer branches (Bicc) with the annul bit; add, addx,
 /// sub, subx, and, andn, or, orn, xor, xnor, each plain and setting flags; sll, srl, sra; jmpl; the
-/// sixteen Ticc; ld, ldub, ldsb, lduh, ldsh, st, stb, sth." 02, N4: "Add umul, smul, umulcc, smulcc, rdy and wry".
+/// sixteen Ticc; ld, ldub, ldsb, lduh, ldsh, st, stb, sth." 02, N4: "Add umul, smul, umulcc, smulcc, rdy and wry";
+/// N11: "Compiled images use save and restore".
 ///
 /// Displacements are in bytes, modulo 2^32, and are added to the word's own address.
 #[derive(Clone, Copy, PartialEq, Eq, Debug)]
@@ -90,6 +91,16 @@ pub enum Instruction {
         rd: usize,
     },
     WriteY {
+        rs1: usize,
+        operand: Operand,
+    },
+    Save {
+        rd: usize,
+        rs1: usize,
+        operand: Operand,
+    },
+    Restore {
+        rd: usize,
         rs1: usize,
         operand: Operand,
     },
@@ -163,6 +174,8 @@ fn unused_bits(instruction: Instruction) -> u32 {
         Instruction::Arithmetic { operand, .. }
         | Instruction::Multiply { operand, .. }
         | Instruction::WriteY { operand, .. }
+        | Instruction::Save { operand, .. }
+        | Instruction::Restore { operand, .. }
         | Instruction::Jmpl { operand, .. }
         | Instruction::Load { operand, .. }
         | Instruction::Store { operand, .. } => match operand {
@@ -262,6 +275,8 @@ fn decode_arithmetic(word: u32) -> Option<Instruction> {
             rs1,
             operand,
         }),
+        0b111100 => Some(Instruction::Save { rd, rs1, operand }),
+        0b111101 => Some(Instruction::Restore { rd, rs1, operand }),
         _ => decode_product(word),
     }
 }
@@ -469,10 +484,10 @@ mod tests {
     }
 
     /// Which bits a known word may not have, set one at a time: in an add, a ld and a jmpl with a register, in a
-    /// shift with a register and with a constant, in a Ticc and a wry with each, in products.
+    /// shift with a register and with a constant, in a Ticc and a wry with each, in products, in save and restore.
     #[test]
     fn each_unused_bit_is_illegal() {
-        let words: [(u32, &[u32]); 13] = [
+        let words: [(u32, &[u32]); 16] = [
             (0x8200_4002, &[5, 6, 7, 8, 9, 10, 11, 12]), // add
             (0xC200_4002, &[5, 6, 7, 8, 9, 10, 11, 12]), // ld
             (0x83C0_4002, &[5, 6, 7, 8, 9, 10, 11, 12]), // jmpl
@@ -483,9 +498,12 @@ mod tests {
             (0x8250_4002, &[5, 6, 7, 8, 9, 10, 11, 12]), // umul
             (0x8180_4002, &[5, 6, 7, 8, 9, 10, 11, 12, 29]), // wry
             (0x8180_6000, &[29]),
-            (0x8258_6000, &[]), // smul with a constant
-            (0x8200_6000, &[]), // add with a constant
-            (0x0300_0000, &[]), // sethi
+            (0x9DE0_4002, &[5, 6, 7, 8, 9, 10, 11, 12]), // save
+            (0x81E8_4002, &[5, 6, 7, 8, 9, 10, 11, 12]), // restore
+            (0x9DE0_6000, &[]),                          // save with a constant
+            (0x8258_6000, &[]),                          // smul with a constant
+            (0x8200_6000, &[]),                          // add with a constant
+            (0x0300_0000, &[]),                          // sethi
         ];
         for (word, unused) in words {
             for bit in (0..13).chain([29]) {
@@ -511,7 +529,18 @@ mod tests {
         }
     }
 
-    /// How many of the op, op2 and op3 values are known: 1 call, 2 of format 2, 31 and 8 of format 3.
+    /// The words are those of GNU's assembler.
+    #[test]
+    fn save_and_restore() {
+        let (rd, rs1, operand) = (14, 14, Operand::Constant(0xFFFF_FFA0));
+        let save = Instruction::Save { rd, rs1, operand };
+        assert_eq!(decode(0x9DE3_BFA0), Some(save)); // save %sp, -96, %sp
+        let (rd, rs1, operand) = (8, 24, Operand::Register(17));
+        let restore = Instruction::Restore { rd, rs1, operand };
+        assert_eq!(decode(0x91EE_0011), Some(restore)); // restore %i0, %l1, %o0
+    }
+
+    /// How many of the op, op2 and op3 values are known: 1 call, 2 of format 2, 33 and 8 of format 3.
     #[test]
     fn how_many_are_known() {
         let format_2 = (0..8).filter(|op2| decode(op2 << 22).is_some()).count();
@@ -521,6 +550,6 @@ mod tests {
         let memory = (0..64)
             .filter(|op3| decode(0xC000_0000 | (op3 << 19)).is_some())
             .count();
-        assert_eq!((format_2, arithmetic, memory), (2, 31, 8));
+        assert_eq!((format_2, arithmetic, memory), (2, 33, 8));
     }
 }

@@ -1,4 +1,5 @@
-//! 02, N2: words read to instructions of six numbers, and instructions written to words; N4: "N2's writer covers them".
+//! 02, N2: words read to instructions of six numbers, and instructions written to words; N4: "N2's writer covers them";
+//! N11: "N2's writer gains both words". Which forms there are is asked of the reader of words.
 
 use crate::words::decode;
 
@@ -205,12 +206,22 @@ mod tests {
             ([168, 0, 7, 0, 0, 0], 0x8F40_0000),  // rdy
             ([176, 0, 0, 3, 1, 5], 0x8180_E005),  // wry
             ([176, 0, 0, 31, 0, 2], 0x8187_C002),
+            ([188, 0, 14, 14, 1, 0xFFFF_FFA0], 0x9DE3_BFA0), // save %sp, -96, %sp
+            ([188, 0, 0, 0, 0, 0], 0x81E0_0000),
+            ([189, 0, 8, 24, 0, 17], 0x91EE_0011), // restore %i0, %l1, %o0
+            ([189, 0, 0, 0, 0, 0], 0x81E8_0000),
         ];
         for (numbers, word) in known {
             assert_eq!(written(numbers), (0, word));
             assert_eq!(read(word), numbers);
         }
-        // among them a rdy with rs1 1, with a constant 0 and with bit 0, and a wry with rd 1
+        assert_eq!(forms().len(), 3 + 33 + 8);
+    }
+
+    /// Among them a rdy with rs1 1, with a constant 0 and with bit 0, a wry with rd 1, and save and restore with an unused
+    /// bit.
+    #[test]
+    fn words_not_known() {
         for unknown in [
             0,
             0x8200_4022,
@@ -220,10 +231,11 @@ mod tests {
             0x8F40_2000,
             0x8F40_0001,
             0x8380_E005,
+            0x81E0_0020,
+            0x81E8_1000,
         ] {
             assert_eq!(read(unknown), [0; 6]);
         }
-        assert_eq!(forms().len(), 3 + 31 + 8);
     }
 
     /// The last number that fits a field, the first that does not, and which of several counts.
@@ -252,11 +264,22 @@ mod tests {
             ([176, 99, 99, 32, 1, 4096], 5),
             ([176, 99, 99, 31, 1, 4096], 13),
             ([176, 99, 99, 31, 0, 32], 5),
+            ([188, 0, 32, 32, 1, 4096], 5),
+            ([188, 0, 31, 31, 1, 0u32.wrapping_sub(4097)], 13),
+            ([189, 0, 31, 32, 1, 4096], 5),
+            ([189, 0, 31, 31, 0, 32], 5),
+            ([187, 0, 0, 0, 0, 0], 0),
+            ([190, 0, 0, 0, 0, 0], 0),
             ([256, 0, 0, 0, 0, 0], 0),
         ];
         for (numbers, bits) in refused {
             assert_eq!(written(numbers), (7, bits), "{numbers:?}");
         }
+    }
+
+    /// Of each kind of field the last numbers that fit.
+    #[test]
+    fn numbers_that_fit() {
         let fitting = [
             [128, 0, 31, 31, 1, 4095],
             [128, 9, 31, 31, 7, 0u32.wrapping_sub(4096)],
@@ -267,6 +290,8 @@ mod tests {
             [4, 99, 31, 99, 99, (1 << 22) - 1],
             [168, 99, 31, 99, 99, 99],
             [176, 99, 99, 31, 99, 4095],
+            [188, 99, 31, 31, 7, 0u32.wrapping_sub(4096)],
+            [189, 99, 31, 31, 0, 31],
         ];
         for numbers in fitting {
             assert_eq!(write(numbers).number, 0, "{numbers:?}");

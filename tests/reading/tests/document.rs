@@ -1,9 +1,9 @@
 //! 01's listing and its cases P1 to P11.
 
 use reading::claim::{check, Start};
-use reading::interface::{new_begin_call, old_begin_call};
+use reading::interface::{new_begin_call, new_run_call, old_begin_call, old_run_call};
 use reading::listing::listing;
-use reading::machine::{Area, End, Machine};
+use reading::machine::{Area, End, Machine, WINDOWED};
 use reading::new_core::{self, Program};
 use reading::old_core::{self, Image, OldState};
 use reading::places::{made_by_the_rules, walk, Place};
@@ -191,10 +191,99 @@ fn y_stays_and_comes_at_once() {
         image_length: 0,
     };
     new_begin_call(nowhere, 4, &mut bytes);
-    assert_eq!(bytes[148..], [0xFF; 4]);
+    assert_eq!(bytes[148..152], [0xFF; 4]);
     let mut bytes = [0xFF; OLD_STATE];
     old_begin_call(4, &mut bytes);
-    assert_eq!(bytes[152..], [0xFF; 4]);
+    assert_eq!(bytes[152..156], [0xFF; 4]);
+}
+
+/// Registers 0 to 31 are 100 to 131, and the 128 numbers of windows 1000 to 1127, as far as they count.
+fn numbered(nesting: u32) -> Machine {
+    let registers = std::array::from_fn(|register| 100 + register as u32);
+    let windows = std::array::from_fn(|k| 1000 + k as u32);
+    Machine::of(registers, 7, flags(5)).within(nesting, windows)
+}
+
+/// 02, N11: "reading in the old window and writing rd in the new". At nesting 2 a save of registers 17 and 9 goes to
+/// register 16, 24 or 1, or nowhere, and a restore of 17 and -1 to 16 or 14.
+#[test]
+fn save_and_restore() {
+    for (word, nesting, rd, sum) in [
+        (0xA1E4_4009, 3, 16, 226),
+        (0xB1E4_4009, 3, 24, 226),
+        (0x83E4_4009, 3, 1, 226),
+        (0x81E4_4009, 3, 0, 0),
+        (0xA1EC_7FFF, 1, 16, 116),
+        (0x9DEC_7FFF, 1, 14, 116),
+    ] {
+        let state = step_word(word, numbered(2));
+        assert_eq!((state.pc, state.end), (4, End::Going), "{word:x}");
+        assert_eq!(state.machine.nesting(), nesting);
+        assert_eq!(state.machine.read(rd), sum, "{word:x}");
+        assert_eq!((state.machine.y, state.machine.flags), (7, flags(5)));
+    }
+}
+
+/// "Ins and outs overlap as V8 draws them": what a window's registers are after a save and after a restore at nesting 2,
+/// whose ins are numbers 32 to 39 of the windows, locals 40 to 47 and outs 48 to 55.
+#[test]
+fn windows_move() {
+    let saved = step_word(0x81E0_0000, numbered(2)).machine.registers();
+    assert_eq!(saved[..8], numbered(2).registers()[..8]);
+    assert_eq!(saved[24..], [108, 109, 110, 111, 112, 113, 114, 115]); // the outs before
+    assert_eq!(saved[16..18], [1056, 1057]);
+    assert_eq!(saved[8..10], [1064, 1065]);
+    let restored = step_word(0x81E8_0000, numbered(2)).machine.registers();
+    assert_eq!(restored[8..16], [124, 125, 126, 127, 128, 129, 130, 131]); // the ins before
+    assert_eq!(restored[16..18], [1024, 1025]);
+    assert_eq!(restored[24..26], [1016, 1017]);
+    // nesting 6: its outs are the ins of window 7, numbers 112 to 119
+    assert_eq!(numbered(6).windows()[112..120], saved[24..]);
+    assert_eq!(numbered(6).windows()[120..122], [1120, 1121]);
+    assert_eq!(numbered(6).windows()[0..2], [1000, 1001]);
+}
+
+/// "A save at 6 or a restore at 0 ends the run and changes nothing", "each with the nesting"; one above 6 counts as 6.
+#[test]
+fn too_many_saves_and_restores() {
+    for (word, nesting, end) in [
+        (0x9DE3_BFA0, 6, End::TooManySaves(6)),
+        (0x9DE3_BFA0, 7, End::TooManySaves(6)),
+        (0x9DE3_BFA0, 0xFFFF_FFFF, End::TooManySaves(6)),
+        (0x81E8_0000, 0, End::TooManyRestores(0)),
+    ] {
+        let state = step_word(word, numbered(nesting));
+        assert_eq!(state.machine, numbered(nesting));
+        assert_eq!((state.end, state.pc, state.npc), (end, 0, 4));
+    }
+    let going = [(0x9DE3_BFA0, 5), (0x81E8_0000, 6), (0x81E8_0000, 1)];
+    for (word, nesting) in going {
+        assert_eq!(step_word(word, numbered(nesting)).end, End::Going);
+    }
+    assert_eq!(End::TooManySaves(6).numbers(), (8, 6));
+    assert_eq!(End::TooManyRestores(0).numbers(), (9, 0));
+}
+
+/// Seven windows deep and back: six saves, six restores, and one restore too many; the entries show each window.
+#[test]
+fn all_windows_in_use() {
+    let mut words = vec![0x9DE3_BFA0; 6]; // save %sp, -96, %sp
+    words.extend([0x81E8_0000; 6]);
+    words.push(0x81E8_0000); // one too many
+    let mut machine = Machine::start();
+    machine.write(14, 4096);
+    let trail = trail_from_0(&words, machine, 99);
+    let nestings: Vec<u32> = trail.entries.iter().map(|entry| entry.nesting).collect();
+    assert_eq!(nestings, [0, 1, 2, 3, 4, 5, 6, 5, 4, 3, 2, 1, 0]);
+    for entry in &trail.entries {
+        assert_eq!(entry.registers[14], 4096 - 96 * entry.nesting);
+        // the stack pointers so far, each an in of the window after its own
+        assert_eq!(entry.windows[16 + 6], 4096);
+    }
+    let last = trail.entries.last().unwrap();
+    let pointers: Vec<u32> = (0..8).map(|w| last.windows[16 * w + 6]).collect();
+    assert_eq!(pointers, [0, 4096, 4000, 3904, 3808, 3712, 3616, 3520]);
+    assert_eq!(trail.close, (9, 0));
 }
 
 #[test]
@@ -395,6 +484,7 @@ fn state_bytes() {
     normal[..4].fill(0);
     normal[128..132].copy_from_slice(&[0, 0, 0, 15]);
     normal[140..152].copy_from_slice(&[0, 0, 0, 1, 0, 0, 0, 0, 0, 0, 0, 0]);
+    normal[156..160].copy_from_slice(&[0, 0, 0, 6]);
     assert_eq!(encode_old(&state), normal);
     let mut ended = [0; NEW_STATE];
     ended[143] = 7;
@@ -403,6 +493,82 @@ fn state_bytes() {
     assert_eq!(decode_new(&ended).end, End::BadRecord(9));
     assert_eq!(decode_new(&ended).machine.y, 5);
     assert_eq!(encode_new(&decode_new(&ended)), ended);
+}
+
+/// A state of the new core as numbers: registers 200 to 231, an end, a nesting, and windows 300 to 427.
+fn state_numbers(end: u32, nesting: u32) -> Vec<u32> {
+    let mut numbers: Vec<u32> = (200..232).collect();
+    numbers.extend([0, 0, 0, end, 5, 1, nesting]);
+    numbers.extend(300..300 + WINDOWED as u32);
+    numbers
+}
+
+/// The same as it comes out: the ins, locals and outs of a window laid over its 24 numbers.
+fn laid_over(mut numbers: Vec<u32>, window: usize) -> Vec<u32> {
+    numbers[0] = 0;
+    numbers[38] = window as u32;
+    for k in 0..8 {
+        numbers[39 + 16 * window + k] = 224 + k as u32;
+        numbers[39 + 16 * window + 8 + k] = 216 + k as u32;
+        numbers[39 + 16 * window + 16 + k] = 208 + k as u32;
+    }
+    numbers
+}
+
+/// Lent, registers 8 to 31 count and the 24 numbers that repeat them are not looked at; left, they are equal, also of
+/// ended states and after a begin; "a nesting handed in above 6 counts as 6"; ends 1 to 9 count as ended.
+#[test]
+fn windows_in_state_bytes() {
+    let program = Program {
+        records: &[],
+        places: &bytes([4, 8, 0, 1]),
+        base: 0,
+        image_length: 0,
+    };
+    for (nesting, window) in [(0, 0), (3, 3), (6, 6), (7, 6), (8, 6), (0x8000_0000, 6)] {
+        for end in [0, 1, 7, 8, 9, 10, 11, 0xFFFF_FFFF] {
+            let mut state = [0; NEW_STATE];
+            state.copy_from_slice(&bytes(state_numbers(end, nesting)));
+            let mut begun = state;
+            let stands = new_run_call(program, 0, &mut state, &mut [], 0);
+            let mut known = laid_over(state_numbers(end, nesting), window);
+            if !(1..=9).contains(&end) {
+                known[35..37].fill(0);
+            }
+            assert_eq!(stands, (known[35], known[36]));
+            assert_eq!(
+                state[..],
+                bytes(known.clone()),
+                "nesting {nesting}, end {end}"
+            );
+            new_begin_call(program, 4, &mut begun);
+            known[33] = 1;
+            known[35..37].fill(0);
+            assert_eq!(begun[..], bytes(known), "nesting {nesting}, end {end}");
+        }
+    }
+}
+
+/// The old core's state has the same numbers, one place further behind the flags.
+#[test]
+fn windows_in_old_state_bytes() {
+    let old = |numbers: Vec<u32>| {
+        let mut state = [0; OLD_STATE];
+        state.copy_from_slice(&bytes([&numbers[..33], &[0], &numbers[33..]].concat()));
+        state
+    };
+    for (nesting, window) in [(0, 0), (5, 5), (6, 6), (99, 6)] {
+        for end in [8, 9] {
+            let mut state = old(state_numbers(end, nesting));
+            let image = Image::at(0, &[]);
+            assert_eq!(old_run_call(image, 0, &mut state, &mut [], 3), (end, 5));
+            let mut known = laid_over(state_numbers(end, nesting), window);
+            assert_eq!(state, old(known.clone()));
+            old_begin_call(0, &mut state);
+            known[33..37].copy_from_slice(&[4, 0, 0, 0]);
+            assert_eq!(state, old(known));
+        }
+    }
 }
 
 /// The end and the record that a run over these records, all other things 0, comes to.
@@ -435,30 +601,54 @@ fn bad_records() {
         [7, 0, 0],
         [7, 1, 0],
         [7, 4, 0],
+        [7, 7, 0],
+        [7, 8, 0],
+        [7, 9, 0],
+        [7, 10, 0],
+        [1, 0x81E0_0020, 0], // save with an unused bit
     ] {
         let stands = run_from_0(&[[5, 1, 0], record].concat());
         assert_eq!(stands, (End::BadRecord(1), 1), "{record:?}");
     }
-    // bn without annul is a word that kind 1 does, and so are products, rdy and wry, but not those that are illegal.
-    for word in [0x0080_0000, 0x8650_4002, 0x8140_0000, 0x8180_4002] {
+    // bn without annul is a word that kind 1 does, and so are products, rdy, wry and save, but not those that are illegal.
+    for word in [
+        0x0080_0000,
+        0x8650_4002,
+        0x8140_0000,
+        0x8180_4002,
+        0x81E0_0000,
+    ] {
         assert_eq!(run_from_0(&[1, word, 0]), (End::BadRecord(1), 1));
     }
+    // a restore at nesting 0, and behind a save
+    assert_eq!(
+        run_from_0(&[1, 0x81E8_0000, 0]),
+        (End::TooManyRestores(0), 0)
+    );
+    let both = [1, 0x81E0_0000, 0, 1, 0x81E8_0000, 0];
+    assert_eq!(run_from_0(&both), (End::BadRecord(2), 2));
     for word in [0x8140_4000, 0x8140_2000, 0x8140_0001, 0x8380_4002] {
         assert_eq!(run_from_0(&[1, word, 0]), (End::BadRecord(0), 0));
     }
 }
 
-/// A start shows register 0 as 0 and the low four flag bits.
+/// A start shows register 0 as 0, the low four flag bits, a nesting of at most 6 and the current window among all.
 #[test]
 fn starts() {
     let start = Start {
         address: 0,
         registers: [5; 32],
         y: 6,
+        nesting: 7,
+        windows: [8; WINDOWED],
         flags: 0x19,
         data: vec![],
     };
     assert_eq!(start.machine().read(0), 0);
     assert_eq!(start.machine().y, 6);
     assert_eq!(start.machine().flags, flags(9));
+    assert_eq!(start.machine().nesting(), 6);
+    assert_eq!(start.machine().windows(), &start.shown_windows());
+    let fives = start.shown_windows().iter().filter(|n| **n == 5).count();
+    assert_eq!(fives, 24);
 }

@@ -32,10 +32,21 @@ unfolding endingOf endingFrom
 returns-7 c = rw (c .match .keys7)
 
 returns-8 : tie.Need-returns-8
+unfolding endingOf endingFrom
+returns-8 c = rw (c .match .keys8)
+
+returns-9 : tie.Need-returns-9
+unfolding endingOf endingFrom
+returns-9 c = rw (c .match .keys9)
+
+returns-10 : tie.Need-returns-10
 unfolding endingOf
-returns-8 c = let n = c .match .rest in no-end _ _ (n .0 .0 .0 .0 .0 .0 .1) (n .0 .0 .0 .0 .0 .1) (n .0 .0 .0 .0 .1) (n .0 .0 .0 .1) (n .0 .0 .1) (n .0 .1) (n .1)
+returns-10 c =
+    let n = c .match .rest in
+    let m = n .0 .0 .0 .0 in
+    no-end _ _ (m .0 .0 .0 .0 .1) (m .0 .0 .0 .1) (m .0 .0 .1) (m .0 .1) (m .1) (n .0 .0 .0 .1) (n .0 .0 .1) (n .0 .1) (n .1)
 
 pub end-from-spec : {M : Type 1} → statement M
 end-from-spec =
     tie.close
-    (tie.spec returns returns-2 returns-3 returns-4 returns-5 returns-6 returns-7 returns-8)
+    (tie.spec returns returns-2 returns-3 returns-4 returns-5 returns-6 returns-7 returns-8 returns-9 returns-10)

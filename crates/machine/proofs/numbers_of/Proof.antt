@@ -27,6 +27,12 @@ enum-known-e-6 c = search needs
 enum-known-e-7 : tie.Need-enum-known-e-7
 enum-known-e-7 c = search needs
 
+enum-known-e-8 : tie.Need-enum-known-e-8
+enum-known-e-8 c = search needs
+
+enum-known-e-9 : tie.Need-enum-known-e-9
+enum-known-e-9 c = search needs
+
 returns : tie.Need-returns
 unfolding endingOf
 returns c = rw (c .enum-told .given .1)
@@ -59,6 +65,14 @@ returns-8 : tie.Need-returns-8
 unfolding endingOf
 returns-8 c = rw (c .before .e7 .given .1)
 
+returns-9 : tie.Need-returns-9
+unfolding endingOf
+returns-9 c = rw (c .before .e8 .given .1)
+
+returns-10 : tie.Need-returns-10
+unfolding endingOf
+returns-10 c = rw (c .before .e9 .given .1)
+
 pub numbers-of-spec : {M : Type 1} → statement M
 numbers-of-spec =
     tie.close
@@ -71,6 +85,8 @@ numbers-of-spec =
     enum-known-e-5
     enum-known-e-6
     enum-known-e-7
+    enum-known-e-8
+    enum-known-e-9
     returns
     returns-2
     returns-3
@@ -78,4 +94,6 @@ numbers-of-spec =
     returns-5
     returns-6
     returns-7
-    returns-8)
+    returns-8
+    returns-9
+    returns-10)

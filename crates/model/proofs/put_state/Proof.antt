@@ -1,71 +1,18 @@
-use Prim.Native.Nat.{_-_}
-use native.Mathlib.Omega.{arith}
-use mathlib.Core.Path.{_≡_, refl, sym}
-use lib.ListN.{take, drop, length-drop}
-use lib.Seq.{length-take-le, take-all}
-use Rattle.machine.specs.Registers.{fileSize}
-use Rattle.model.proofs.Filled.{fill-state}
 use borrow.Author.Needs.{needs}
 use Rattle.model.proofs.put_state.Statement.{statement}
 use Rattle.model.proofs.put_state.Tie as tie
 
-array-share-prefix-regs : tie.Need-array-share-prefix-regs
-array-share-prefix-regs c = search needs
+lay-down-requires : tie.Need-lay-down-requires
+lay-down-requires c κs = search needs
 
-slice-aggregate-write-numbers : tie.Need-slice-aggregate-write-numbers
-slice-aggregate-write-numbers c = sym (length-take-le 32 (c .before .before .before .before .args .t2) (array-share-prefix-regs (c .before)))
-
-write-numbers-requires : tie.Need-write-numbers-requires
-write-numbers-requires c κs = let e = slice-aggregate-write-numbers c in omega (arith, e)
-
-write-numbers-requires-2 : tie.Need-write-numbers-requires-2
-write-numbers-requires-2 c κs = search needs
-
-mul-write-numbers : tie.Need-mul-write-numbers
-mul-write-numbers c = search needs
-
-add-write-numbers : tie.Need-add-write-numbers
-add-write-numbers c = search needs
-
-sub-write-numbers : tie.Need-sub-write-numbers
-sub-write-numbers c = search needs
-
-part-write-numbers-start : tie.Need-part-write-numbers-start
-part-write-numbers-start c = search needs
-
-part-write-numbers-end : tie.Need-part-write-numbers-end
-part-write-numbers-end c = search needs
-
-write-numbers-requires-3 : tie.Need-write-numbers-requires-3
-write-numbers-requires-3 c κs = search needs
+write-state-requires : tie.Need-write-state-requires
+write-state-requires c κs = search needs
 
 same-length : tie.Need-same-length
 same-length c = search needs
 
 returns : tie.Need-returns
-returns c = let w = c .before .before .before .before .before .before .before .before .before .before .before .before in
-    let k = w .before .before .before .before .before .args in
-    let n = part-write-numbers-end (c .before .before .before .before) in
-    let d = length-drop 32 (k .t2) in
-    let all : take (fileSize - 32) (drop 32 (k .t2)) ≡ drop 32 (k .t2) = take-all (fileSize - 32) (drop 32 (k .t2)) (omega (arith, n, d)) in
-    fill-state (k .bytes .now) (w .write-numbers .last .0) _ _ (take 32 (k .t2)) (k .rest .now) (drop 32 (k .t2)) _
-    (sym (slice-aggregate-write-numbers (w .before))) refl (omega (arith, n, d)) (w .write-numbers .ensures)
-    (c .before .before .before .before .before .before .before .before .write-numbers2 .ensures)
-    (rw all at (c .before .before .write-numbers3 .ensures))
+returns c = let l = c .before .before .before .before .before .before .lay-down .ensures in (l, rw (← l) (c .before .before .write-state .ensures))
 
 pub put-state-spec : {M : Type 1} → statement M
-put-state-spec =
-    tie.close
-    (tie.spec
-    array-share-prefix-regs
-    slice-aggregate-write-numbers
-    write-numbers-requires
-    write-numbers-requires-2
-    mul-write-numbers
-    add-write-numbers
-    sub-write-numbers
-    part-write-numbers-start
-    part-write-numbers-end
-    write-numbers-requires-3
-    same-length
-    returns)
+put-state-spec = tie.close (tie.spec lay-down-requires write-state-requires same-length returns)

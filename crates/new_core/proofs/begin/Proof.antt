@@ -6,8 +6,8 @@ use borrow.Author.Needs.{needs}
 use Rattle.new_core.proofs.begin.Statement.{statement}
 use Rattle.new_core.proofs.begin.Tie as tie
 
-array-write-regs : tie.Need-array-write-regs
-array-write-regs c = search needs
+element-write-regs : tie.Need-element-write-regs
+element-write-regs c = search needs
 
 search-requires : tie.Need-search-requires
 search-requires c κs = search needs
@@ -39,7 +39,7 @@ pub begin-spec : {M : Type 1} → statement M
 begin-spec =
     tie.close
     (tie.spec
-    array-write-regs
+    element-write-regs
     search-requires
     enum-known-s
     begun-requires

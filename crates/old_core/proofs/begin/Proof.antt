@@ -6,8 +6,8 @@ use borrow.Author.Needs.{needs}
 use Rattle.old_core.proofs.begin.Statement.{statement}
 use Rattle.old_core.proofs.begin.Tie as tie
 
-array-write-regs : tie.Need-array-write-regs
-array-write-regs c = search needs
+element-write-regs : tie.Need-element-write-regs
+element-write-regs c = search needs
 
 further-requires : tie.Need-further-requires
 further-requires c κs = search needs
@@ -17,4 +17,4 @@ unfolding oldBegun zeroed endingOf isSet
 returns c = λ a. rw (c .further .ensures)
 
 pub begin-spec : {M : Type 1} → statement M
-begin-spec = tie.close (tie.spec array-write-regs further-requires returns)
+begin-spec = tie.close (tie.spec element-write-regs further-requires returns)

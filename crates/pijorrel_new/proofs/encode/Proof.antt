@@ -14,8 +14,9 @@ put-state-requires c κs = search needs
 
 returns : tie.Need-returns
 unfolding newBytes
-returns c = let e = c .before .before .before .numbers-of .ensures in
-    (e, λ a. rw (← e) (c .put-state .ensures))
+returns c =
+    let e = c .before .before .before .before .numbers-of .ensures in
+    (e, c .put-state .ensures .0, λ a. rw (← e) (c .put-state .ensures .1))
 
 pub encode-spec : {M : Type 1} → statement M
 encode-spec = tie.close (tie.spec numbers-of-requires slice-aggregate-put-state put-state-requires returns)

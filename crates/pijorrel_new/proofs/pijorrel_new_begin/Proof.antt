@@ -20,9 +20,9 @@ encode-requires c κs = search needs
 
 returns : tie.Need-returns
 unfolding newBegins newIn
-returns c = let k = c .before .before .before .before .before .before .args in
-    after-run _ _ [] _ [] _ _ _ (c .encode .ensures .0) (c .encode .ensures .1 [])
-    (ap (λ (x : State New). lent x []) (c .before .before .begin .ensures [] ∙ ap (newBegun (k .places .now) (k .base) (k .size) (k .a)) (same-machine (c .before .before .before .decode .ensures []))))
+returns c = let k = c .before .before .before .before .before .before .before .before .before .args in
+    after-run _ _ [] _ [] _ _ _ (c .encode .ensures .0) (c .encode .ensures .2 [])
+    (ap (λ (x : State New). lent x []) (c .before .before .before .begin .ensures [] ∙ ap (newBegun (k .places .now) (k .base) (k .size) (k .a)) (same-machine (c .before .before .before .before .before .decode .ensures []))))
 
 pub pijorrel-new-begin-spec : {M : Type 1} → statement M
 pijorrel-new-begin-spec =

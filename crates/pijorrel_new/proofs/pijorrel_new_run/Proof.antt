@@ -22,11 +22,11 @@ same-length c = search needs
 
 returns : tie.Need-returns
 unfolding newRuns
-returns c = let ran = c .before .before .before .before in
+returns c = let ran = c .before .before .before .before .before in
     let k = ran .before .before .before .before .before .before .before .before .before .args in
-    after-run _ _ _ _ _ _ _ _ (c .encode .ensures .0) (c .encode .ensures .1 _)
+    after-run _ _ _ _ _ _ _ _ (c .encode .ensures .0) (c .encode .ensures .2 _)
     (ran .run .ensures
-    ∙ ap (λ (x : State New). lent (run (newNext (k .records .now) (k .places .now) (k .base) (k .size) (k .db)) (k .count) x) (beyond (k .area .now))) (ran .before .before .before .before .decode .ensures (dataOf (k .area .now))))
+    ∙ ap (λ (x : State New). lent (run (newNext (k .records .now) (k .places .now) (k .base) (k .size) (k .db)) (k .count) x) (beyond (k .area .now))) (ran .before .before .before .decode .ensures (dataOf (k .area .now))))
 
 pub pijorrel-new-run-spec : {M : Type 1} → statement M
 pijorrel-new-run-spec =

@@ -18,8 +18,9 @@ put-state-requires c κs = search needs
 
 returns : tie.Need-returns
 unfolding oldBytes isSet
-returns c = let e = c .before .before .before .before .before .numbers-of .ensures in
-    (e, λ a. rw (← e, ← c .before .before .before .bit .ensures .0) (c .put-state .ensures))
+returns c =
+    let e = c .before .before .before .before .before .before .numbers-of .ensures in
+    (e, c .put-state .ensures .0, λ a. rw (← e, ← c .before .before .before .before .bit .ensures .0) (c .put-state .ensures .1))
 
 pub encode-spec : {M : Type 1} → statement M
 encode-spec = tie.close (tie.spec numbers-of-requires bit-requires slice-aggregate-put-state put-state-requires returns)

@@ -18,7 +18,7 @@ encode-requires c κs = search needs
 
 returns : tie.Need-returns
 unfolding oldBegins oldIn
-returns c = c .encode .ensures .1 [] ∙ ap oldBytes (c .before .before .begin .ensures [] ∙ ap (oldBegun _) (same-machine (c .before .before .before .decode .ensures [])))
+returns c = c .encode .ensures .2 [] ∙ ap oldBytes (c .before .before .before .begin .ensures [] ∙ ap (oldBegun _) (same-machine (c .before .before .before .before .before .decode .ensures [])))
 
 pub pijorrel-old-begin-spec : {M : Type 1} → statement M
 pijorrel-old-begin-spec =

@@ -22,10 +22,10 @@ same-length c = search needs
 
 returns : tie.Need-returns
 unfolding oldRuns
-returns c = let ran = c .before .before .before .before in
+returns c = let ran = c .before .before .before .before .before in
     let k = ran .before .before .before .before .before .before .before .before .args in
-    after-run _ _ _ _ _ _ _ _ (c .encode .ensures .0) (c .encode .ensures .1 _)
-    (ran .run .ensures ∙ ap (λ (x : State Old). lent (run (oldNext (k .image .now) (k .base) (k .db)) (k .count) x) (beyond (k .area .now))) (ran .before .before .before .before .decode .ensures (dataOf (k .area .now))))
+    after-run _ _ _ _ _ _ _ _ (c .encode .ensures .0) (c .encode .ensures .2 _)
+    (ran .run .ensures ∙ ap (λ (x : State Old). lent (run (oldNext (k .image .now) (k .base) (k .db)) (k .count) x) (beyond (k .area .now))) (ran .before .before .before .decode .ensures (dataOf (k .area .now))))
 
 pub pijorrel-old-run-spec : {M : Type 1} → statement M
 pijorrel-old-run-spec =

@@ -102,6 +102,18 @@ enum-known-i-11 c = search needs
 six-with-requires-7 : tie.Need-six-with-requires-7
 six-with-requires-7 c κs = search needs
 
+enum-known-i-12 : tie.Need-enum-known-i-12
+enum-known-i-12 c = search needs
+
+window-op3-requires : tie.Need-window-op3-requires
+window-op3-requires c κs = search needs
+
+add-six-with-5 : tie.Need-add-six-with-5
+add-six-with-5 c = search needs
+
+six-with-requires-8 : tie.Need-six-with-requires-8
+six-with-requires-8 c κs = search needs
+
 returns : tie.Need-returns
 unfolding sixOf
 returns c = rw (c .before .enum-told .given .1) (c .plain-six .ensures)
@@ -150,6 +162,10 @@ returns-12 : tie.Need-returns-12
 unfolding sixOf
 returns-12 c = rw (c .before .before .i11 .given .1) (c .six-with7 .ensures)
 
+returns-13 : tie.Need-returns-13
+unfolding sixOf
+returns-13 c = rw (c .before .before .before .i12 .given .1, ← c .before .window-op3 .ensures .0) (c .six-with8 .ensures)
+
 pub six-of-spec : {M : Type 1} → statement M
 six-of-spec =
     tie.close
@@ -187,6 +203,10 @@ six-of-spec =
     plain-six-requires-5
     enum-known-i-11
     six-with-requires-7
+    enum-known-i-12
+    window-op3-requires
+    add-six-with-5
+    six-with-requires-8
     returns
     returns-2
     returns-3
@@ -198,4 +218,5 @@ six-of-spec =
     returns-9
     returns-10
     returns-11
-    returns-12)
+    returns-12
+    returns-13)

@@ -1,14 +1,13 @@
-use native.Mathlib.Omega.{arith}
-use mathlib.Core.Path.{ap}
+use mathlib.Core.Path.{ap, _∙_}
 use Rattle.words.specs.Reader.{format2Of, unusedSet, strictly}
 use Rattle.words.specs.Flow.{flowOf}
-use Rattle.words.proofs.Reader.{no-row2}
-use Rattle.words.proofs.Strict.{beside-none, shift-none}
+use Rattle.words.proofs.Reader.{behind-row2}
+use Rattle.words.proofs.Strict.{beside-none}
 use Rattle.words.proofs.flow2.Statement.{statement}
 use Rattle.words.proofs.flow2.Tie as tie
 
-trap-flow-requires : tie.Need-trap-flow-requires
-trap-flow-requires c κs = beside-none _ _ (c .before .pre .0)
+other-flow2-requires : tie.Need-other-flow2-requires
+other-flow2-requires c κs = c .before .pre
 
 returns : tie.Need-returns
 unfolding flowOf format2Of strictly unusedSet
@@ -107,42 +106,13 @@ unfolding flowOf format2Of strictly unusedSet
 returns-24 c = λ rs1 x. rw (c .match .keys24, beside-none _ _ (c .before .pre .0))
 
 returns-25 : tie.Need-returns-25
-unfolding flowOf format2Of strictly unusedSet
-returns-25 c = λ rs1 x. rw (c .match .keys25, shift-none _ _ (c .before .pre .0) (omega (arith, c .match .keys25)) (omega (arith, c .match .keys25)))
-
-returns-26 : tie.Need-returns-26
-unfolding flowOf format2Of strictly unusedSet
-returns-26 c = λ rs1 x. rw (c .match .keys26, shift-none _ _ (c .before .pre .0) (omega (arith, c .match .keys26)) (omega (arith, c .match .keys26)))
-
-returns-27 : tie.Need-returns-27
-unfolding flowOf format2Of strictly unusedSet
-returns-27 c = λ rs1 x. rw (c .match .keys27, shift-none _ _ (c .before .pre .0) (omega (arith, c .match .keys27)) (omega (arith, c .match .keys27)))
-
-returns-28 : tie.Need-returns-28
-unfolding flowOf format2Of strictly unusedSet
-returns-28 c = λ rs1 x. rw (c .match .keys28, c .before .pre .1 (c .match .keys28))
-
-returns-29 : tie.Need-returns-29
-unfolding flowOf format2Of strictly unusedSet
-returns-29 c = λ rs1 x. rw (c .match .keys29, beside-none _ _ (c .before .pre .0), c .before .pre .2 (c .match .keys29))
-
-returns-30 : tie.Need-returns-30
-unfolding flowOf format2Of strictly unusedSet
-returns-30 c = λ rs1 x. rw (c .match .keys30, beside-none _ _ (c .before .pre .0))
-
-returns-31 : tie.Need-returns-31
-unfolding format2Of
-returns-31 c = λ rs1 x. rw (c .before .match .keys31) (c .trap-flow .ensures rs1 x)
-
-returns-32 : tie.Need-returns-32
-unfolding flowOf strictly unusedSet
-returns-32 c = λ rs1 x. ap (λ i. flowOf (strictly (c .before .args .word) i)) (no-row2 _ _ _ rs1 x (c .match .rest))
+returns-25 c = λ rs1 x. c .other-flow2 .ensures rs1 x ∙ ap (λ i. flowOf (strictly (c .before .before .args .word) i)) (behind-row2 _ _ _ rs1 x (c .before .match .rest))
 
 pub flow2-spec : {M : Type 1} → statement M
 flow2-spec =
     tie.close
     (tie.spec
-    trap-flow-requires
+    other-flow2-requires
     returns
     returns-2
     returns-3
@@ -167,11 +137,4 @@ flow2-spec =
     returns-22
     returns-23
     returns-24
-    returns-25
-    returns-26
-    returns-27
-    returns-28
-    returns-29
-    returns-30
-    returns-31
-    returns-32)
+    returns-25)

@@ -1,6 +1,6 @@
-use mathlib.Core.Path.{ap}
-use Rattle.words.specs.Reader.{format2Of, unusedSet, strictly}
-use Rattle.words.proofs.Reader.{no-row2}
+use mathlib.Core.Path.{ap, _∙_}
+use Rattle.words.specs.Reader.{format2Of, strictly}
+use Rattle.words.proofs.Reader.{behind-row2}
 use borrow.Author.Needs.{needs}
 use Rattle.words.proofs.format2.Statement.{statement}
 use Rattle.words.proofs.format2.Tie as tie
@@ -77,26 +77,8 @@ arithmetic-requires-23 c κs = search needs
 arithmetic-requires-24 : tie.Need-arithmetic-requires-24
 arithmetic-requires-24 c κs = search needs
 
-shift-requires : tie.Need-shift-requires
-shift-requires c κs = search needs
-
-shift-requires-2 : tie.Need-shift-requires-2
-shift-requires-2 c κs = search needs
-
-shift-requires-3 : tie.Need-shift-requires-3
-shift-requires-3 c κs = search needs
-
-rdy-requires : tie.Need-rdy-requires
-rdy-requires c κs = search needs
-
-wry-requires : tie.Need-wry-requires
-wry-requires c κs = search needs
-
-jump-requires : tie.Need-jump-requires
-jump-requires c κs = search needs
-
-trap-requires : tie.Need-trap-requires
-trap-requires c κs = search needs
+other2-requires : tie.Need-other2-requires
+other2-requires c κs = search needs
 
 returns : tie.Need-returns
 unfolding format2Of
@@ -195,36 +177,7 @@ unfolding format2Of
 returns-24 c = rw (c .before .match .keys24) (c .arithmetic24 .ensures)
 
 returns-25 : tie.Need-returns-25
-unfolding format2Of
-returns-25 c = rw (c .before .match .keys25) (c .shift .ensures)
-
-returns-26 : tie.Need-returns-26
-unfolding format2Of
-returns-26 c = rw (c .before .match .keys26) (c .shift2 .ensures)
-
-returns-27 : tie.Need-returns-27
-unfolding format2Of
-returns-27 c = rw (c .before .match .keys27) (c .shift3 .ensures)
-
-returns-28 : tie.Need-returns-28
-unfolding format2Of
-returns-28 c = rw (c .before .match .keys28) (c .rdy .ensures)
-
-returns-29 : tie.Need-returns-29
-unfolding format2Of
-returns-29 c = rw (c .before .match .keys29) (c .wry .ensures)
-
-returns-30 : tie.Need-returns-30
-unfolding format2Of
-returns-30 c = rw (c .before .match .keys30) (c .jump .ensures)
-
-returns-31 : tie.Need-returns-31
-unfolding format2Of
-returns-31 c = rw (c .before .match .keys31) (c .trap .ensures)
-
-returns-32 : tie.Need-returns-32
-unfolding strictly unusedSet
-returns-32 c = ap (strictly (c .before .args .word)) (no-row2 _ _ _ _ _ (c .match .rest))
+returns-25 c = c .other2 .ensures ∙ ap (strictly (c .before .before .args .word)) (behind-row2 _ _ _ _ _ (c .before .match .rest))
 
 pub format2-spec : {M : Type 1} → statement M
 format2-spec =
@@ -254,13 +207,7 @@ format2-spec =
     arithmetic-requires-22
     arithmetic-requires-23
     arithmetic-requires-24
-    shift-requires
-    shift-requires-2
-    shift-requires-3
-    rdy-requires
-    wry-requires
-    jump-requires
-    trap-requires
+    other2-requires
     returns
     returns-2
     returns-3
@@ -285,11 +232,4 @@ format2-spec =
     returns-22
     returns-23
     returns-24
-    returns-25
-    returns-26
-    returns-27
-    returns-28
-    returns-29
-    returns-30
-    returns-31
-    returns-32)
+    returns-25)

@@ -84,6 +84,15 @@ enum-known-i-11 c = search needs
 wry-word-requires : tie.Need-wry-word-requires
 wry-word-requires c κs = search needs
 
+enum-known-i-12 : tie.Need-enum-known-i-12
+enum-known-i-12 c = search needs
+
+window-op3-requires : tie.Need-window-op3-requires
+window-op3-requires c κs = search needs
+
+long-word-requires-5 : tie.Need-long-word-requires-5
+long-word-requires-5 c κs = search needs
+
 returns : tie.Need-returns
 unfolding writtenOf
 returns c = rw (c .enum-told .given .1)
@@ -132,6 +141,10 @@ returns-12 : tie.Need-returns-12
 unfolding writtenOf
 returns-12 c = rw (c .before .before .i11 .given .1) (c .wry-word .ensures)
 
+returns-13 : tie.Need-returns-13
+unfolding writtenOf
+returns-13 c = rw (c .before .before .before .i12 .given .1, ← c .before .window-op3 .ensures .0) (c .long-word5 .ensures)
+
 pub write-instruction-spec : {M : Type 1} → statement M
 write-instruction-spec =
     tie.close
@@ -163,6 +176,9 @@ write-instruction-spec =
     rdy-word-requires
     enum-known-i-11
     wry-word-requires
+    enum-known-i-12
+    window-op3-requires
+    long-word-requires-5
     returns
     returns-2
     returns-3
@@ -174,4 +190,5 @@ write-instruction-spec =
     returns-9
     returns-10
     returns-11
-    returns-12)
+    returns-12
+    returns-13)

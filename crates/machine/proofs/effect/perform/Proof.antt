@@ -30,17 +30,26 @@ enum-known-i-3 c = search needs
 trap-requires : tie.Need-trap-requires
 trap-requires c κs = search needs
 
+standing-requires : tie.Need-standing-requires
+standing-requires c κs = search needs
+
 enum-known-i-4 : tie.Need-enum-known-i-4
 enum-known-i-4 c = search needs
 
 load-requires : tie.Need-load-requires
 load-requires c κs = search needs
 
+standing-requires-2 : tie.Need-standing-requires-2
+standing-requires-2 c κs = search needs
+
 enum-known-i-5 : tie.Need-enum-known-i-5
 enum-known-i-5 c = search needs
 
 store-requires : tie.Need-store-requires
 store-requires c κs = search needs
+
+standing-requires-3 : tie.Need-standing-requires-3
+standing-requires-3 c κs = search needs
 
 enum-known-i-6 : tie.Need-enum-known-i-6
 enum-known-i-6 c = search needs
@@ -78,6 +87,15 @@ put-y-requires c κs = search needs
 going-requires-5 : tie.Need-going-requires-5
 going-requires-5 c κs = search needs
 
+enum-known-i-9 : tie.Need-enum-known-i-9
+enum-known-i-9 c = search needs
+
+window-requires : tie.Need-window-requires
+window-requires c κs = search needs
+
+standing-requires-4 : tie.Need-standing-requires-4
+standing-requires-4 c κs = search needs
+
 going-requires-6 : tie.Need-going-requires-6
 going-requires-6 c κs = search needs
 
@@ -91,27 +109,27 @@ returns-2 c = rw (c .going2 .ensures .0, c .going2 .ensures .1, c .before .befor
 
 returns-3 : tie.Need-returns-3
 unfolding effectOf
-returns-3 c = let a = c .before .before .before .before .before .before .args in
+returns-3 c = let a = c .before .before .before .before .before .before .before .args in
     let m = machine (a .regs .now) (a .f .nzvc) (a .area .now) in
-    rw (c .before .before .before .i3 .given .1) (settle-within (λ (u : Unit {0}). m) _ _ _ _ (c .trap .ensures))
+    rw (c .standing .ensures .0, c .standing .ensures .1, c .before .before .before .before .i3 .given .1) (settle-within (λ (u : Unit {0}). m) _ _ _ _ (c .before .trap .ensures))
 
 same-length : tie.Need-same-length
 same-length c = search needs
 
 returns-4 : tie.Need-returns-4
 unfolding effectOf
-returns-4 c = let a = c .before .before .before .before .before .before .before .args in
+returns-4 c = let a = c .before .before .before .before .before .before .before .before .args in
     let m = machine (a .regs .now) (a .f .nzvc) (a .area .now) in
-    rw (c .before .before .before .before .i4 .given .1) (settle-within (withRegisters m) _ _ _ _ (c .load .ensures))
+    rw (c .standing2 .ensures .0, c .standing2 .ensures .1, c .before .before .before .before .before .i4 .given .1) (settle-within (withRegisters m) _ _ _ _ (c .before .load .ensures))
 
 same-length-2 : tie.Need-same-length-2
 same-length-2 c = search needs
 
 returns-5 : tie.Need-returns-5
 unfolding effectOf
-returns-5 c = let a = c .before .before .before .before .before .before .before .before .before .args in
+returns-5 c = let a = c .before .before .before .before .before .before .before .before .before .before .args in
     let m = machine (a .regs .now) (a .f .nzvc) (a .area .now) in
-    rw (c .before .before .before .before .before .before .i5 .given .1) (settle-within (withArea m) _ _ _ _ (c .before .before .store .ensures))
+    rw (c .standing3 .ensures .0, c .standing3 .ensures .1, c .before .before .before .before .before .before .before .i5 .given .1) (settle-within (withArea m) _ _ _ _ (c .before .before .before .store .ensures))
 
 returns-6 : tie.Need-returns-6
 unfolding effectOf settle endingOf
@@ -126,8 +144,14 @@ unfolding effectOf settle endingOf
 returns-8 c = rw (c .going5 .ensures .0, c .going5 .ensures .1, c .before .before .before .before .before .before .before .before .i8 .given .1, c .before .put-y .ensures, c .before .before .value .ensures, c .before .before .before .before .reg .ensures)
 
 returns-9 : tie.Need-returns-9
+unfolding effectOf
+returns-9 c = let a = c .before .before .before .before .before .before .before .args in
+    let m = machine (a .regs .now) (a .f .nzvc) (a .area .now) in
+    rw (c .standing4 .ensures .0, c .standing4 .ensures .1, c .before .before .before .before .i9 .given .1) (settle-within (withRegisters m) _ _ _ _ (c .before .window .ensures))
+
+returns-10 : tie.Need-returns-10
 unfolding endingOf
-returns-9 c = rw (c .going6 .ensures .0, c .going6 .ensures .1) (idle _ _ _ (c .before .match .keys9))
+returns-10 c = rw (c .going6 .ensures .0, c .going6 .ensures .1) (idle _ _ _ (c .before .match .keys10))
 
 pub perform-spec : {M : Type 1} → statement M
 perform-spec =
@@ -141,10 +165,13 @@ perform-spec =
     going-requires-2
     enum-known-i-3
     trap-requires
+    standing-requires
     enum-known-i-4
     load-requires
+    standing-requires-2
     enum-known-i-5
     store-requires
+    standing-requires-3
     enum-known-i-6
     shift-requires
     going-requires-3
@@ -157,6 +184,9 @@ perform-spec =
     value-requires
     put-y-requires
     going-requires-5
+    enum-known-i-9
+    window-requires
+    standing-requires-4
     going-requires-6
     returns
     returns-2
@@ -168,4 +198,5 @@ perform-spec =
     returns-6
     returns-7
     returns-8
-    returns-9)
+    returns-9
+    returns-10)
