@@ -1,6 +1,6 @@
 -- The old core does what the place does: one step from entry to entry, or two where a word is annulled.
-use Prim.Native.Nat.{ℕ, _%_, _^_, _<_}
-use mathlib.Core.Path.{_≡_, refl, ap, _∙_}
+use Prim.Native.Nat.{ℕ, _%_}
+use mathlib.Core.Path.{_≡_, refl, ap, _∙_, subst}
 use mathlib.Core.Bool.{Bool, true, false, false≢true}
 use mathlib.Core.List.{List}
 use mathlib.Core.Option.{Option, none, some}
@@ -24,12 +24,8 @@ use Rattle.model.specs.Places.{plain, placeAt, Which, never, always, dep
 use Rattle.model.specs.Cores.{shownOf, oldMark, oldShown, oldOver}
 use Rattle.model.proofs.Transfers.{holds-never, holds-always, trap-halts}
 use Rattle.model.proofs.Hop.{Left, onward, ends, leaves, left, Hop, once, twice, Over}
+use Rattle.model.proofs.Follows.{Aligned, Closed, leftBy, Follower}
 use Rattle.model.proofs.Middle.{Out, on, over, by, Reads, reads, linked, outOf, jumpOut, branchOut, biccOut, heldOut, doOut, doHeld, outAt, heldAt, out}
-
--- addresses of a place: multiples of 4 of 32 bits
-abbrev pub Aligned : Place → Type 0
-Aligned (Pair p n) = (p % 4 ≡ 0) × (n % 4 ≡ 0) × (p < 2 ^ 32) × (n < 2 ^ 32)
-Aligned (Held p) = (p % 4 ≡ 0) × (p < 2 ^ 32)
 
 -- opens what the old core does to control
 old-open : Unit {0}
@@ -130,7 +126,7 @@ module _ (image : List ℕ) (base db : ℕ) where
     old-held-at none ok e = once (step-left (halt (ending 2 p)) e)
     old-held-at (some word) ok e = old-held-do (transferOf (instructionOf word)) (instructionOf word) refl ok e
 
-  pub old-hop : (pl : Place) (h : ℕ) (m : Machine) → Aligned pl → allowed image base pl ≡ true
+  old-hop : (pl : Place) (h : ℕ) (m : Machine) → Aligned pl → allowed image base pl ≡ true
       → Hop (oldOver image base db) (toOld pl h m) (oldOut (out image base db pl h m))
   unfolding old-open allowed
   old-hop (Pair p n) h m al ok = old-at (old m p n false) p n h m (wordIn image base p) (rw (al .0))
@@ -176,3 +172,36 @@ module _ (image : List ℕ) (base db : ℕ) where
   old-over (old m p n true) = tt
   old-over (old m p n false) =
       either OverOld (eqb (p % 4) 0) (fetches db (wordIn image base p) m p n) (halt (ending 4 p)) (over-at (wordIn image base p) m p n) (omega arith)
+
+  -- -------------------------------------------------------------- so it follows the places of any closed list, and goes on at every address
+  old-left : (o : Out) → oldOut o ≡ leftBy image base db toOld (λ a. true) o
+  old-left (on pl h m) = refl
+  old-left (over e) = refl
+  old-left (by a m) = refl
+
+  pub old-hops : (pl : Place) (h : ℕ) (m : Machine) → Aligned pl → allowed image base pl ≡ true
+      → Hop (oldOver image base db) (toOld pl h m) (leftBy image base db toOld (λ a. true) (out image base db pl h m))
+  old-hops pl h m al ok = subst (O (toOld pl h m)) (old-left (out image base db pl h m)) (old-hop pl h m al ok)
+
+  pub old-ends : (a : ℕ) (m : Machine) → a % 4 ≡ 0 → wordIn image base a ≡ none → Hop (oldOver image base db) (toOld (plain a) a m) (ends (ending 2 a))
+  unfolding old-open
+  old-ends a m al e = old-at (old m a (plus a 4) false) a (plus a 4) a m none (rw (al, e))
+
+  pub old-mark-plain : (a h : ℕ) (m : Machine) → oldOver image base db .mark (toOld (plain a) h m) ≡ some a
+  unfolding oldMark
+  old-mark-plain a h m = refl
+
+  abbrev pub oldFollower : (ps : List Place) → Closed image base ps → Follower image base db (oldOver image base db)
+  oldFollower ps C =
+      record {
+        ps = ps;
+        to = toOld;
+        goes = λ a. true;
+        closed = C;
+        over = old-over;
+        shows = old-shown;
+        marks = λ pl h m i. old-mark pl h m;
+        hops = λ pl h m i. old-hops pl h m (C .aligned-at pl i) (C .ok pl i);
+        marks-on = λ a m q. old-mark-plain a a m;
+        ends-on = λ a m q. old-ends a m;
+      }

@@ -20,7 +20,7 @@ use Prim.Native.Nat.{ℕ, _*_, _/_, _≤_, _<_}
 use Rattle.model.specs.Translation.{Handed, filled, refusal, acceptance, fromWalk, translation}
 use Rattle.model.proofs.Accepted.{took}
 use Rattle.model.specs.Walk.{table}
-use Rattle.model.specs.Records.{rowsOf, recordsOf, recordsFrom, recordsNumbers, first}
+use Rattle.model.specs.Records.{inFull, rowsOf, recordsOf, recordsFrom, recordsNumbers, first}
 use Rattle.model.specs.declared.Answer.{Answer}
 use Rattle.model.specs.declared.Answer.the-variants.{Accepted, ImageLength, Base, Entry, Forbidden, NoRoom, RecordsShort}
 use Rattle.model.proofs.Answer.{the-type as answer}
@@ -56,21 +56,21 @@ module _ (pl rl : ℕ) (t s : List ℕ) (lt : length t ≡ pl) (ls : length s �
       rw (nothing-filled t (4 * placesCounted a) (length t) (omega arith), nothing-filled s (3 * recordsCounted a) (length s) (omega arith), lt, ls)
 
   module _ (image : List ℕ) (base : ℕ) (ps : List Place) (count r : ℕ) (d : Laid image base ps count t r) where
-    all-of : (f : Place → ℕ) → length (recordsFrom image base f ps) ≡ r
+    all-of : (f : Place → ℕ) → length (recordsFrom (inFull image base) f ps) ≡ r
     all-of f = records-length image base f ps ∙ sym (d .all)
 
     pub finish-short : rl / 12 < r → cleared (RecordsShort r) t s ≡ fromWalk image base pl rl (table ps)
     unfolding fromWalk recordsOf placesCounted recordsCounted
-    finish-short h = rw (all-of (first image base ps), lt-leb r (rl / 12) h) (refused-as (RecordsShort r) refl refl)
+    finish-short h = rw (all-of (first (inFull image base) ps), lt-leb r (rl / 12) h) (refused-as (RecordsShort r) refl refl)
 
-    pub finish-whole : r ≤ rl / 12 → numbersOf s (3 * r) ≡ recordsNumbers (recordsFrom image base (firstIn t count r) (placesIn t count))
+    pub finish-whole : r ≤ rl / 12 → numbersOf s (3 * r) ≡ recordsNumbers (recordsFrom (inFull image base) (firstIn t count r) (placesIn t count))
         → cleared (Accepted count r) t s ≡ fromWalk image base pl rl (table ps)
     unfolding fromWalk recordsOf rowsOf acceptance placesCounted recordsCounted
     finish-whole h e =
         let n : length ps ≡ count = ap length (sym (d .kept)) ∙ length-places t count in
-        let f : recordsFrom image base (firstIn t count r) (placesIn t count) ≡ recordsFrom image base (first image base ps) ps =
+        let f : recordsFrom (inFull image base) (firstIn t count r) (placesIn t count) ≡ recordsFrom (inFull image base) (first (inFull image base) ps) ps =
         rw (d .kept) (records-same image base ps (first-laid image base ps count t r d)) in
-        rw (all-of (first image base ps), le-leb r (rl / 12) h, n, d .numbers, e, f, lt, ls)
+        rw (all-of (first (inFull image base) ps), le-leb r (rl / 12) h, n, d .numbers, e, f, lt, ls)
 
   -- the end of the walk, by what was found
   module _ (image : List ℕ) (base : ℕ) {w : Found} where

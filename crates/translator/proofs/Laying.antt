@@ -16,7 +16,7 @@ use mathlib.Core.List.{List, [], _∷_, _++_, append-nil, append-assoc}
 use mathlib.Core.Bool.{Bool, true, false}
 use mathlib.Core.Path.{_≡_, refl, sym, ap, _∙_}
 use Prim.Native.Nat.{ℕ, suc, _+_, _*_, _^_, _≤_, _<_}
-use Rattle.model.specs.Records.{Group, one, two, group, past, first, rowsFrom, tableNumbers}
+use Rattle.model.specs.Records.{inFull, Group, one, two, group, past, first, rowsFrom, tableNumbers}
 use Rattle.places.specs.Table.{placeIn, ShowsIn, SameRow, placesIn, numberOf}
 use Rattle.translator.specs.Layout.{size, needed, firstIn, Laid}
 
@@ -43,8 +43,8 @@ module _ (image : List ℕ) (base : ℕ) where
     unfolding needed
     needed-turn n all h = past-add g n (needed image base qs) ∙ (rw (c, ← e) at h)
 
-    pub rows-turn : (n : ℕ) → tableNumbers (rowsFrom image base n ps)
-        ≡ (placeAt x ∷ nextOf x ∷ kindOf x ∷ n ∷ []) ++ tableNumbers (rowsFrom image base (past g n) qs)
+    pub rows-turn : (n : ℕ) → tableNumbers (rowsFrom (inFull image base) n ps)
+        ≡ (placeAt x ∷ nextOf x ∷ kindOf x ∷ n ∷ []) ++ tableNumbers (rowsFrom (inFull image base) (past g n) qs)
     unfolding rowsFrom tableNumbers
     rows-turn n = rw (c, e)
 
@@ -114,7 +114,7 @@ row-trans l m o j s t = (s .0 ∙ t .0, s .1 ∙ t .1, s .2 ∙ t .2)
 abbrev pub Laying : List ℕ → ℕ → List ℕ → List Place → ℕ → ℕ → Type 0
 Laying image base l ps i n =
     (n + needed image base (drop i ps) ≡ needed image base ps)
-    × (numbersOf l (4 * i) ++ tableNumbers (rowsFrom image base n (drop i ps)) ≡ tableNumbers (rowsFrom image base 0 ps))
+    × (numbersOf l (4 * i) ++ tableNumbers (rowsFrom (inFull image base) n (drop i ps)) ≡ tableNumbers (rowsFrom (inFull image base) 0 ps))
 
 module _ (image : List ℕ) (base : ℕ) (l l0 : List ℕ) (count i n : ℕ) (same : (j : ℕ) → SameRow l l0 j) where
   pub lay-turn : {k : ℕ} → i < count → k ≡ size (group image base (placeIn l i)) → ShowsIn l0 i → 16 * i + 16 ≤ length l → n < 2 ^ 32
@@ -144,28 +144,28 @@ module _ (image : List ℕ) (base : ℕ) (l l0 : List ℕ) (count i n : ℕ) (sa
 -- the first record of a place that is in the list stands in its row; of another it is the number of all records
 module _ (image : List ℕ) (base : ℕ) (x : Place) where
   first-there : (n : ℕ) (ps : List Place) → numberOf x ps < length ps
-      → n + first image base ps x ≡ getD (tableNumbers (rowsFrom image base n ps)) (4 * numberOf x ps + 3) 0
+      → n + first (inFull image base) ps x ≡ getD (tableNumbers (rowsFrom (inFull image base) n ps)) (4 * numberOf x ps + 3) 0
   unfolding first numberOf rowsFrom tableNumbers
   first-there n [] h = absurd (omega arith)
   first-there n (y ∷ ys) h = go (first-there (past (group image base y) n) ys) (samePlace y x) h
     where
       go : (numberOf x ys < length ys
-          → past (group image base y) n + first image base ys x ≡ getD (tableNumbers (rowsFrom image base (past (group image base y) n) ys)) (4 * numberOf x ys + 3) 0)
+          → past (group image base y) n + first (inFull image base) ys x ≡ getD (tableNumbers (rowsFrom (inFull image base) (past (group image base y) n) ys)) (4 * numberOf x ys + 3) 0)
           → (b : Bool) → pick b 0 (suc (numberOf x ys)) < suc (length ys)
-          → n + pick b 0 (past (group image base y) (first image base ys x))
-          ≡ getD (placeAt y ∷ nextOf y ∷ kindOf y ∷ n ∷ tableNumbers (rowsFrom image base (past (group image base y) n) ys)) (4 * pick b 0 (suc (numberOf x ys)) + 3) 0
+          → n + pick b 0 (past (group image base y) (first (inFull image base) ys x))
+          ≡ getD (placeAt y ∷ nextOf y ∷ kindOf y ∷ n ∷ tableNumbers (rowsFrom (inFull image base) (past (group image base y) n) ys)) (4 * pick b 0 (suc (numberOf x ys)) + 3) 0
       go r true k = omega arith
       go r false k =
           let e : 4 * suc (numberOf x ys) + 3 ≡ suc (suc (suc (suc (4 * numberOf x ys + 3)))) = omega arith in
-          rw e (sym (past-add (group image base y) n (first image base ys x)) ∙ r (omega arith))
+          rw e (sym (past-add (group image base y) n (first (inFull image base) ys x)) ∙ r (omega arith))
 
-  first-absent : (ps : List Place) → length ps ≤ numberOf x ps → first image base ps x ≡ needed image base ps
+  first-absent : (ps : List Place) → length ps ≤ numberOf x ps → first (inFull image base) ps x ≡ needed image base ps
   unfolding first numberOf needed
   first-absent [] h = refl
   first-absent (y ∷ ys) h = go (first-absent ys) (samePlace y x) h
     where
-      go : (length ys ≤ numberOf x ys → first image base ys x ≡ needed image base ys) → (b : Bool) → suc (length ys) ≤ pick b 0 (suc (numberOf x ys))
-          → pick b 0 (past (group image base y) (first image base ys x)) ≡ past (group image base y) (needed image base ys)
+      go : (length ys ≤ numberOf x ys → first (inFull image base) ys x ≡ needed image base ys) → (b : Bool) → suc (length ys) ≤ pick b 0 (suc (numberOf x ys))
+          → pick b 0 (past (group image base y) (first (inFull image base) ys x)) ≡ past (group image base y) (needed image base ys)
       go r true k = absurd (omega arith)
       go r false k = rw (r (omega arith))
 
@@ -174,16 +174,16 @@ unfolding numbersOf
 number-of l n i h = get-up (λ i. numberAt l (4 * i)) n i 0 h
 
 pub first-laid : (image : List ℕ) (base : ℕ) (ps : List Place) (count : ℕ) (l : List ℕ) (r : ℕ) → Laid image base ps count l r → (x : Place)
-    → firstIn l count r x ≡ first image base ps x
+    → firstIn l count r x ≡ first (inFull image base) ps x
 unfolding firstIn
 first-laid image base ps count l r d x = rw (d .kept) (go (ltb (numberOf x ps) count) refl)
   where
     size : length ps ≡ count
     size = ap length (sym (d .kept)) ∙ length-places l count
 
-    go : (b : Bool) → ltb (numberOf x ps) count ≡ b → pick b (numberAt l (16 * numberOf x ps + 12)) r ≡ first image base ps x
+    go : (b : Bool) → ltb (numberOf x ps) count ≡ b → pick b (numberAt l (16 * numberOf x ps + 12)) r ≡ first (inFull image base) ps x
     go true e =
         let h : numberOf x ps < count = ltb-true (numberOf x ps) count e in
         let k : 16 * numberOf x ps + 12 ≡ 4 * (4 * numberOf x ps + 3) = omega arith in
-        rw k (sym (number-of l (4 * count) (4 * numberOf x ps + 3) (omega arith)) ∙ rw (d .numbers) (sym (first-there image base x 0 ps (omega (arith, size))) ∙ zero-add (first image base ps x)))
+        rw k (sym (number-of l (4 * count) (4 * numberOf x ps + 3) (omega arith)) ∙ rw (d .numbers) (sym (first-there image base x 0 ps (omega (arith, size))) ∙ zero-add (first (inFull image base) ps x)))
     go false e = d .all ∙ sym (first-absent image base x ps (omega (arith, size, ltb-false (numberOf x ps) count e)))

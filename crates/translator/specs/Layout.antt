@@ -6,7 +6,7 @@ use lib.Dec.{ltb}
 use Rattle.numbers.specs.Choice.{pick}
 use Rattle.numbers.specs.Number.{numberAt, numbersOf}
 use Rattle.model.specs.declared.Place.{Place}
-use Rattle.model.specs.Records.{Rec, doWord, link, hold, goIf, goTo, goHeld, stop, Group, one, two, group, past, put, rowsFrom, tableNumbers, recordsNumbers}
+use Rattle.model.specs.Records.{inFull, Rec, doWord, link, hold, goIf, goTo, goHeld, stop, Group, one, two, group, past, put, rowsFrom, tableNumbers, recordsNumbers}
 use Rattle.places.specs.Table.{placesIn, numberOf}
 use Rattle.places.specs.Index.{Tabled}
 use Rattle.translator.specs.declared.records.Extent.{Extent}
@@ -47,7 +47,7 @@ firstIn bytes count all x =
 pub record Laid (image : List ℕ) (base : ℕ) (ps : List Place) (count : ℕ) (bytes : List ℕ) (r : ℕ) : Type 0 where
   pub all : r ≡ needed image base ps
   pub kept : placesIn bytes count ≡ ps
-  pub numbers : numbersOf bytes (4 * count) ≡ tableNumbers (rowsFrom image base 0 ps)
+  pub numbers : numbersOf bytes (4 * count) ≡ tableNumbers (rowsFrom (inFull image base) 0 ps)
 
 -- a group put from record `at` on: how far it reaches, and the numbers up to there
 pub record Puts (f : Place → ℕ) (g : Group Place) (at : ℕ) (before after : List ℕ) (r : ℕ) : Type 0 where

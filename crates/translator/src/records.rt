@@ -8,7 +8,7 @@ ghost use Rattle.numbers.specs.Number.{numbersOf};
 ghost use Rattle.model.specs.declared.Place.{Place};
 ghost use Rattle.model.specs.declared.Place.the-variants.{Pair, Held};
 ghost use Rattle.model.specs.Places.{plain, whichOf};
-ghost use Rattle.model.specs.Records.{biccGroup, groupOf, heldGroupOf, group, past, recordNumbers, recordsNumbers, recordsFrom};
+ghost use Rattle.model.specs.Records.{inFull, biccGroup, groupOf, heldGroupOf, group, past, recordNumbers, recordsNumbers, recordsFrom};
 ghost use Rattle.places.specs.Control.{transferred};
 ghost use Rattle.places.specs.Table.{placeOf, placeIn, placesIn, Shows};
 ghost use Rattle.places.specs.Index.{Tabled};
@@ -271,7 +271,7 @@ pub fn put_groups(
     records: &mut [u8],
 )
     requires { ⌜ Tabled (now places) count (now heads) (now links) × (total ≡ needed (now image) base (placesIn (now places) count)) × (12 * total ≤ length (now records)) ⌝ }
-    ensures { λ _. ⌜ numbersOf (now (records .exit)) (3 * total) ≡ recordsNumbers (recordsFrom (now (image .entry)) base (firstIn (now (places .entry)) count total) (placesIn (now (places .entry)) count)) ⌝ }
+    ensures { λ _. ⌜ numbersOf (now (records .exit)) (3 * total) ≡ recordsNumbers (recordsFrom (inFull (now (image .entry)) base) (firstIn (now (places .entry)) count total) (placesIn (now (places .entry)) count)) ⌝ }
 {
     let e = Extent { count, total };
     let mut at: usize = 0;

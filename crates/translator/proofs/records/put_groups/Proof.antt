@@ -1,5 +1,5 @@
 use Rattle.numbers.specs.Number.{upTo, numbersOf}
-use Rattle.model.specs.Records.{recordsFrom, recordsNumbers}
+use Rattle.model.specs.Records.{inFull, recordsFrom, recordsNumbers}
 use Rattle.places.proofs.Rows.{length-places}
 use Rattle.places.specs.Table.{placesIn}
 use Rattle.translator.proofs.Laying.{needed-le, needed-turn, next-place}
@@ -18,8 +18,8 @@ use Rattle.translator.proofs.records.put_groups.Tie as tie
 abbrev Inv-loop : tie.InvT-loop
 Inv-loop image base places heads links count total records₀ e at₀ i₀ records at i =
     (i ≤ count) × (length records ≡ length records₀) × (at + needed image base (drop i (placesIn places count)) ≡ total)
-    × (numbersOf records (3 * at) ++ recordsNumbers (recordsFrom image base (firstIn places count total) (drop i (placesIn places count)))
-    ≡ recordsNumbers (recordsFrom image base (firstIn places count total) (placesIn places count)))
+    × (numbersOf records (3 * at) ++ recordsNumbers (recordsFrom (inFull image base) (firstIn places count total) (drop i (placesIn places count)))
+    ≡ recordsNumbers (recordsFrom (inFull image base) (firstIn places count total) (placesIn places count)))
 
 abbrev μ-loop : tie.MeasureT-loop
 μ-loop image base places heads links count total records₀ e at₀ i₀ records at i = count - i
