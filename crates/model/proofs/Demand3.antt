@@ -34,10 +34,10 @@ use Rattle.model.proofs.Trails.{steady-on, Cut, cuts, run-suc, traced-s
 use Rattle.model.proofs.Follows.{Closed, Follower, Meet}
 use Rattle.model.proofs.OldSide.{old-over, oldFollower}
 use Rattle.model.proofs.Groups.{sought, not-sought}
-use Rattle.model.proofs.NewSide.{new-over, newFollower}
+use Rattle.model.proofs.NewSide.{newFollower}
 use Rattle.model.proofs.Simulation.{Same}
 use Rattle.model.proofs.Comparison.{number, value, Verdict, alike, left-ended, right-ended, verdict, last-six, gaps-new, new-unspent, by-entries, by-take, old-unspent, gaps-old, trailFrom, first-entry, from-one, from-two}
-use Rattle.model.proofs.Six.{Fell, six-fell, kind-6-goes, six-lands}
+use Rattle.model.proofs.Six.{Fell, six-fell, kind-6-goes, six-lands, new-over}
 use Rattle.model.proofs.Walk.{places-closed, places-fit, member-made, made-member}
 use Rattle.model.proofs.Packed.{table-back, records-back}
 use Rattle.model.proofs.Accepted.{words-lt, numbers-lt, entries-aligned, Took, took}

@@ -1,36 +1,34 @@
 -- The new core does what the place does, where it is given the table and records of a closed list: one record from entry to entry, or two.
-use Prim.Native.Nat.{ℕ, zero, suc, _%_, _^_, _≤_, _<_}
+use Prim.Native.Nat.{ℕ, suc, _%_, _^_, _≤_, _<_}
 use native.Mathlib.Nat.{zero-add}
 use native.Mathlib.Omega.{arith}
 use mathlib.Core.Path.{_≡_, refl, ap, _∙_, subst}
-use mathlib.Core.Bool.{Bool, true, false, _||_, false≢true}
+use mathlib.Core.Bool.{Bool, true, false, false≢true}
 use mathlib.Core.List.{List}
 use mathlib.Core.Option.{Option, none, some}
 use lib.Dec.{eqb, leb}
 use lib.ListN.{getElem?, length}
 use Rattle.numbers.specs.Choice.{pick}
-use Rattle.numbers.proofs.Choice.{either}
 use Rattle.numbers.specs.Number.{plus}
 use Rattle.words.specs.Conditions.{holdsOf}
 use Rattle.words.specs.Reader.{instructionOf}
 use Rattle.machine.specs.Ends.{Ending, ending, Next, go, halt, within}
 use Rattle.machine.specs.Registers.{addressOf}
 use Rattle.machine.specs.Effect.{Machine, effectOf}
-use Rattle.machine.proofs.Ends.{EndsWell}
-use Rattle.machine.proofs.Effects.{effects-end}
 use Rattle.model.specs.declared.Place.{Place}
 use Rattle.model.specs.declared.Place.the-variants.{Pair, Held}
 use Rattle.model.specs.OldCore.{inImage, wordIn, Transfer, illegal, straight, trap, call, bicc, jmpl, transferOf, target}
 use Rattle.model.specs.Places.{plain, placeAt, member, Which, never, always, depends, whichOf, idleBicc, mayBeHeld, mayBeHeldAt, allowed}
-use Rattle.model.specs.Records.{Rec, doWord, link, hold, goIf, goTo, goHeld, stop, unknown, Group, one, two, biccGroup, groupOf, heldGroupOf, groupAt, heldGroupAt, group, numbered, inFull, first, rowsOf, recordsOf, rowsIn, recordsIn}
+use Rattle.model.specs.Records.{Rec, doWord, link, hold, goIf, goTo, goHeld, stop, Group, one, two, biccGroup, groupOf, heldGroupOf, groupAt, heldGroupAt, group, numbered, inFull, first, rowsOf, recordsOf, rowsIn, recordsIn}
 use Rattle.model.specs.NewCore.{New, new, following, fit, doesWord, holds, chooses, seek, lost, goes, stops, does, newNext}
 use Rattle.model.specs.Trails.{Core}
 use Rattle.model.specs.Cores.{shownOf, naming, newMark, newShown, goesBy, newByHeld, newOver}
 use Rattle.words.specs.declared.Operand.{Operand}
 use Rattle.model.proofs.Transfers.{trapEnd, trap-halts, idle-does, small-condition}
-use Rattle.model.proofs.Hop.{Left, onward, ends, lands, leaves, left, Hop, once, twice, Over}
+use Rattle.model.proofs.Hop.{Left, onward, ends, lands, leaves, left, Hop, once, twice}
 use Rattle.model.proofs.Middle.{Out, on, over, by, Reads, reads, linked, outOf, jumpOut, branchOut, biccOut, heldOut, doOut, doHeld, outAt, heldAt, out}
 use Rattle.model.proofs.Follows.{Closed, leftBy, Follower}
+use Rattle.model.proofs.Six.{new-over}
 use Rattle.model.proofs.Groups.{Stands, stands, Second, unnamed, named, sought, not-sought, first-le}
 
 -- opens what the records of a group do
@@ -192,70 +190,6 @@ module _ (image : List ℕ) (base db : ℕ) (ps : List Place) (records places : 
     pub new-mark : (pl : Place) (h : ℕ) (m : Machine) → member ps pl ≡ true → newCore .mark (toNew pl h m) ≡ some (placeAt pl)
     unfolding newMark rowsOf
     new-mark pl h m i = rw er (rw zero-add at (named (inFull image base) ps 0 pl i))
-
--- ------------------------------------------------------------------ over any table and records, the new core ends only with an end above 0
-module _ (records places : List ℕ) (base size db : ℕ) where
-  abbrev OverNew : Next New → Type 0
-  OverNew = Over (newOver records places base size db)
-
-  module _ (m : Machine) (r h : ℕ) where
-    over-effect : (x : Next Machine) → EndsWell x → OverNew (within (following r h) x)
-    unfolding within
-    over-effect (go m′) e = tt
-    over-effect (halt (ending z v)) e = e .0
-
-    over-word : (w : ℕ) → OverNew (doesWord db w m r h)
-    unfolding doesWord
-    over-word w =
-        either OverNew (fit (transferOf (instructionOf w))) (within (following r h) (effectOf db (instructionOf w) m)) (halt (ending 7 r))
-        (over-effect (effectOf db (instructionOf w) m) (effects-end db (instructionOf w) m)) (omega arith)
-
-    over-hold : (t : Transfer) (p : ℕ) → OverNew (holds t p m r)
-    unfolding holds
-    over-hold illegal p = omega arith
-    over-hold straight p = omega arith
-    over-hold trap p = omega arith
-    over-hold (call disp) p = omega arith
-    over-hold (bicc cond annul disp) p = omega arith
-    over-hold (jmpl rd rs1 x) p =
-        either OverNew (eqb (addressOf (m .registers) rs1 x % 4) 0) (go (following r (addressOf (m .registers) rs1 x) (linked m rd p)))
-        (halt (ending 4 (addressOf (m .registers) rs1 x))) tt (omega arith)
-
-    over-choose : (cond to : ℕ) → OverNew (chooses cond to m r h)
-    unfolding chooses
-    over-choose cond to =
-        either OverNew (leb cond 15) (go (pick (holdsOf cond (m .flags)) (new m to h) (following r h m))) (halt (ending 7 r)) tt (omega arith)
-
-    over-lost : (b : Bool) → OverNew (halt (lost b h))
-    unfolding lost
-    over-lost true = omega arith
-    over-lost false = omega arith
-
-    over-seek : (o : Option ℕ) (b : Bool) → OverNew (goes o b m h)
-    unfolding goes
-    over-seek (some f) b = tt
-    over-seek none b = over-lost b
-
-    over-stop : (e p : ℕ) (b : Bool) → eqb e 2 || eqb e 3 ≡ b → OverNew (pick b (halt (ending e p)) (halt (ending 7 r)))
-    over-stop e p false q = omega arith
-    over-stop zero p true q = absurd (false≢true q)
-    over-stop (suc e) p true q = omega arith
-
-    over-do : (o : Option (Rec ℕ)) → OverNew (does (rowsIn places) base size db o m r h)
-    unfolding does stops
-    over-do none = omega arith
-    over-do (some (doWord w)) = over-word w
-    over-do (some (link p)) = tt
-    over-do (some (hold w p)) = over-hold (transferOf (instructionOf w)) p
-    over-do (some (goIf cond to)) = over-choose cond to
-    over-do (some (goTo to)) = tt
-    over-do (some goHeld) = over-seek (seek (rowsIn places) h) (inImage base size h)
-    over-do (some (stop e p)) = over-stop e p (eqb e 2 || eqb e 3) refl
-    over-do (some unknown) = omega arith
-
-  pub new-over : (s : New) → Over (newOver records places base size db) (newOver records places base size db .next s)
-  unfolding newNext
-  new-over (new m r h) = over-do m r h (getElem? (recordsIn records) r)
 
 -- ------------------------------------------------------------------ so it follows the places of the list, and goes on where that has a plain place
 module _ (image : List ℕ) (base db : ℕ) (ps : List Place) (records places : List ℕ) (er : rowsIn places ≡ rowsOf (inFull image base) ps)

@@ -1,6 +1,6 @@
 -- The old core does what the place does: one step from entry to entry, or two where a word is annulled.
 use Prim.Native.Nat.{ℕ, _%_}
-use mathlib.Core.Path.{_≡_, refl, ap, _∙_, subst}
+use mathlib.Core.Path.{_≡_, refl, ap, _∙_}
 use mathlib.Core.Bool.{Bool, true, false, false≢true}
 use mathlib.Core.List.{List}
 use mathlib.Core.Option.{Option, none, some}
@@ -36,14 +36,13 @@ abbrev pub toOld : Place → ℕ → Machine → Old
 toOld (Pair p n) h m = old m p n false
 toOld (Held p) h m = old m p h false
 
-abbrev pub oldOut : Out → Left Old
-oldOut (on pl h m) = onward (toOld pl h m)
-oldOut (over e) = ends e
-oldOut (by a m) = onward (toOld (plain a) a m)
-
 module _ (image : List ℕ) (base db : ℕ) where
   abbrev O : Old → Left Old → Type 0
   O = Hop (oldOver image base db)
+
+  -- it goes on at every held address
+  abbrev oldOut : Out → Left Old
+  oldOut = leftBy image base db toOld (λ a. true)
 
   abbrev N : Old → Next Old
   N = oldNext image base db
@@ -126,7 +125,7 @@ module _ (image : List ℕ) (base db : ℕ) where
     old-held-at none ok e = once (step-left (halt (ending 2 p)) e)
     old-held-at (some word) ok e = old-held-do (transferOf (instructionOf word)) (instructionOf word) refl ok e
 
-  old-hop : (pl : Place) (h : ℕ) (m : Machine) → Aligned pl → allowed image base pl ≡ true
+  pub old-hop : (pl : Place) (h : ℕ) (m : Machine) → Aligned pl → allowed image base pl ≡ true
       → Hop (oldOver image base db) (toOld pl h m) (oldOut (out image base db pl h m))
   unfolding old-open allowed
   old-hop (Pair p n) h m al ok = old-at (old m p n false) p n h m (wordIn image base p) (rw (al .0))
@@ -174,15 +173,6 @@ module _ (image : List ℕ) (base db : ℕ) where
       either OverOld (eqb (p % 4) 0) (fetches db (wordIn image base p) m p n) (halt (ending 4 p)) (over-at (wordIn image base p) m p n) (omega arith)
 
   -- -------------------------------------------------------------- so it follows the places of any closed list, and goes on at every address
-  old-left : (o : Out) → oldOut o ≡ leftBy image base db toOld (λ a. true) o
-  old-left (on pl h m) = refl
-  old-left (over e) = refl
-  old-left (by a m) = refl
-
-  pub old-hops : (pl : Place) (h : ℕ) (m : Machine) → Aligned pl → allowed image base pl ≡ true
-      → Hop (oldOver image base db) (toOld pl h m) (leftBy image base db toOld (λ a. true) (out image base db pl h m))
-  old-hops pl h m al ok = subst (O (toOld pl h m)) (old-left (out image base db pl h m)) (old-hop pl h m al ok)
-
   pub old-ends : (a : ℕ) (m : Machine) → a % 4 ≡ 0 → wordIn image base a ≡ none → Hop (oldOver image base db) (toOld (plain a) a m) (ends (ending 2 a))
   unfolding old-open
   old-ends a m al e = old-at (old m a (plus a 4) false) a (plus a 4) a m none (rw (al, e))
@@ -201,7 +191,7 @@ module _ (image : List ℕ) (base db : ℕ) where
         over = old-over;
         shows = old-shown;
         marks = λ pl h m i. old-mark pl h m;
-        hops = λ pl h m i. old-hops pl h m (C .aligned-at pl i) (C .ok pl i);
+        hops = λ pl h m i. old-hop pl h m (C .aligned-at pl i) (C .ok pl i);
         marks-on = λ a m q. old-mark-plain a a m;
         ends-on = λ a m q. old-ends a m;
       }
