@@ -11,6 +11,7 @@ use lib.Bits.{and-lt, or-lt, xor-lt}
 use lib.Dec.{eqb, leb, ltb}
 use lib.ListN.{length, getD, set, length-set}
 use borrow.Author.Tests.{ltb-true, lt-ltb}
+use Rattle.words.proofs.Conditions.{bit-lt}
 use Rattle.words.specs.Reader.{bits, bitSet, operandOf, rows0, format0Of, rows2, none2, format2Of, rows3, none3, format3Of, byFormat, instructionOf}
 use Rattle.numbers.specs.Choice.{pick}
 use Rattle.numbers.specs.Number.{Below, plus, minus, signed, numberAt}
@@ -18,7 +19,7 @@ use Rattle.numbers.proofs.Choice.{either, found-passes}
 use Rattle.words.proofs.Strict.{left-strictly}
 use Rattle.numbers.proofs.Number.{length-put}
 use Rattle.numbers.proofs.Bounds.{below-get, below-set, number-lt, put-below, plus-lt, minus-lt, extended-lt}
-use Rattle.words.specs.Conditions.{holdsOf, bitOf, nzvcOf}
+use Rattle.words.specs.Conditions.{holdsOf, nzvcOf}
 use Rattle.words.specs.declared.Width.{Width}
 use Rattle.words.specs.declared.Width.the-variants.{Byte, Half, Word}
 use Rattle.words.specs.declared.Operand.{Operand}
@@ -194,11 +195,6 @@ unfolding addressOf
 address-lt rs rs1 x = plus-lt (registerOf rs rs1) (valueOf rs x)
 
 -- ---------------------------------------------------------------- arithmetic
-pub bit-lt : (b : Bool) → bitOf b < 2
-unfolding bitOf
-bit-lt true = omega arith
-bit-lt false = omega arith
-
 four-bits : (n z v c : Bool) → nzvcOf n z v c < 16
 unfolding nzvcOf
 four-bits n z v c = omega (arith, bit-lt n, bit-lt z, bit-lt v, bit-lt c)

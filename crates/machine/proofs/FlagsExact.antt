@@ -5,7 +5,7 @@ use Rattle.numbers.proofs.Choice.{same-test}
 use Rattle.words.specs.Conditions.{bitAt, bitOf, nzvcOf}
 use Rattle.machine.specs.Arithmetic.{top, signedOf, unsignedOf, sumOverflow, sumCarry, differenceOverflow, differenceCarry, sumOf, differenceOf, outcomeOf}
 use Rattle.machine.specs.FlagsExact.{fitsSigned, fitsUnsigned, belowZero, Sets, FlagsExact}
-use Rattle.machine.proofs.Bounds.{bit-lt}
+use Rattle.words.proofs.Conditions.{bit-lt}
 use borrow.Author.Tests.{not-true, leb-true, leb-false, ltb-true, ltb-false, le-leb, lt-leb, lt-ltb, le-ltb, eq-eqb, ne-eqb}
 use lib.Dec.{leb, ltb, eqb}
 use lib.IntN.{ℤ, pos, negsuc, negℤ, _+ℤ_, _-ℤ_, +ℤ-assoc, +ℤ-comm, +ℤ-idr, negℤ-+ℤ, negℤ-negℤ}

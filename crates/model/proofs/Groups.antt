@@ -41,7 +41,7 @@ unfolding past
 beyond (one r) f = omega arith
 beyond (two r s) f = omega arith
 
-past-add : (g : Group Place) (f n : ℕ) → past g f + n ≡ f + past g n
+pub past-add : (g : Group Place) (f n : ℕ) → past g f + n ≡ f + past g n
 unfolding past
 past-add (one r) f n = omega arith
 past-add (two r s) f n = omega arith

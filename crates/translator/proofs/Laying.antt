@@ -17,19 +17,9 @@ use mathlib.Core.Bool.{Bool, true, false}
 use mathlib.Core.Path.{_≡_, refl, sym, ap, _∙_}
 use Prim.Native.Nat.{ℕ, suc, _+_, _*_, _^_, _≤_, _<_}
 use Rattle.model.specs.Records.{inFull, Group, one, two, group, past, first, rowsFrom, tableNumbers}
+use Rattle.model.proofs.Groups.{past-add, past-le}
 use Rattle.places.specs.Table.{placeIn, ShowsIn, SameRow, placesIn, numberOf}
 use Rattle.translator.specs.Layout.{size, needed, firstIn, Laid}
-
--- a group has one record or two
-pub past-le : (g : Group Place) (n : ℕ) → past g n ≤ n + 2
-unfolding past
-past-le (one r) n = omega arith
-past-le (two r s) n = omega arith
-
-pub past-add : (g : Group Place) (a b : ℕ) → past g a + b ≡ a + past g b
-unfolding past
-past-add (one r) a b = omega arith
-past-add (two r s) a b = omega arith
 
 module _ (image : List ℕ) (base : ℕ) where
   pub needed-le : (ps : List Place) → needed image base ps ≤ 2 * length ps

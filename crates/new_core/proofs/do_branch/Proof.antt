@@ -1,5 +1,6 @@
 use Rattle.machine.specs.Ends.{settle}
-use Rattle.new_core.proofs.Records.{annuls, never-taken, may-be-taken}
+use Rattle.model.proofs.Transfers.{annuls}
+use Rattle.new_core.proofs.Records.{never-taken, may-be-taken}
 use borrow.Author.Needs.{needs}
 use Rattle.new_core.proofs.do_branch.Statement.{statement}
 use Rattle.new_core.proofs.do_branch.Tie as tie

@@ -1,6 +1,7 @@
 use Rattle.model.specs.Places.{mayBeHeld}
 use Rattle.places.specs.Control.{transferred}
-use Rattle.places.proofs.Flows.{annuls, idle}
+use Rattle.model.proofs.Transfers.{annuls}
+use Rattle.places.proofs.Flows.{idle}
 use mathlib.Core.Path.{sym}
 use borrow.Author.Needs.{needs}
 use Rattle.places.proofs.control.may_be_held.Statement.{statement}
