@@ -5,11 +5,7 @@ ghost use Rattle.numbers.specs.Number.{plus};
 ghost use Rattle.words.specs.Conditions.{bitOf};
 ghost use Rattle.machine.specs.Ends.{ending, endingOf, endingFrom, isGoing};
 
-pub mod arithmetic;
-pub mod data_area;
-pub mod effect;
 pub mod registers;
-pub mod windows;
 
 // An address of the source program. It is never read as a record number.
 pub struct SourcePc(pub u32);

@@ -17,8 +17,8 @@ use Rattle.words.specs.Reader.{instructionOf}
 use Rattle.words.specs.declared.Instruction.{Instruction}
 use Rattle.machine.specs.Ends.{ending, Next, go, halt, within, State, state, settle}
 use Rattle.machine.specs.Registers.{addressOf}
-use Rattle.machine.specs.Effect.{Machine, effectOf}
-use Rattle.machine.proofs.Bounds.{Sound, SoundEnd, Leaves, leaves-within, put-sound, address-lt, fitsIn, word-fits, effects-sound}
+use Rattle.effects.specs.Effect.{Machine, effectOf}
+use Rattle.effects.proofs.Bounds.{Sound, SoundEnd, Leaves, leaves-within, put-sound, address-lt, fitsIn, word-fits, effects-sound}
 use Rattle.model.specs.Run.{step, run}
 use Rattle.model.specs.OldCore.{Old, old, wordIn, Transfer, illegal, straight, trap, call, bicc, jmpl, transferOf, target, follows, branches, jumps, executes, fetches, oldNext}
 use Rattle.model.specs.Records.{Rec, doWord, link, hold, goIf, goTo, goHeld, stop, unknown, Row, row, rowAt, rowsIn, recordOf, recordAt, recordsIn}

@@ -13,8 +13,8 @@ use Rattle.numbers.proofs.Bounds.{number-lt}
 use Rattle.words.proofs.Conditions.{bit-lt}
 use Rattle.words.specs.Conditions.{bitOf}
 use Rattle.machine.specs.Ends.{Ending, ending, endingFrom, state}
-use Rattle.machine.specs.Windows.{laid}
-use Rattle.machine.specs.Effect.{Machine, machine}
+use Rattle.windows.specs.Windows.{laid}
+use Rattle.effects.specs.Effect.{Machine, machine}
 use Rattle.model.specs.Run.{dataOf}
 use Rattle.model.specs.OldCore.{Old, old, oldNext}
 use Rattle.model.specs.NewCore.{New, new, newNext}

@@ -8,7 +8,7 @@ use mathlib.Core.Option.{Option, none, some}
 use lib.ListN.{length, take}
 use Rattle.numbers.specs.Number.{plus}
 use Rattle.machine.specs.Ends.{Ending, ending, State, state, live, settle}
-use Rattle.machine.specs.Effect.{Machine}
+use Rattle.effects.specs.Effect.{Machine}
 use Rattle.model.specs.Run.{step}
 use Rattle.model.specs.OldCore.{Old, old, follows, oldNext}
 use Rattle.model.specs.Places.{plain, placeAt, member}

@@ -13,9 +13,9 @@ use Rattle.numbers.specs.Number.{Below, plus, bytesOf}
 use Rattle.numbers.proofs.Bounds.{below-bytes}
 use Rattle.machine.specs.Ends.{ending, halt, State, state, live, settle}
 use Rattle.machine.specs.Registers.{yOf}
-use Rattle.machine.specs.Windows.{nestingOf, placeOf, laid as laidDown, comeIn}
-use Rattle.machine.specs.Effect.{Machine, machine}
-use Rattle.machine.proofs.Ring.{laid-low, laid-free, laid-own, laid-length, laid-nesting, in-low, in-nesting, in-free}
+use Rattle.windows.specs.Windows.{nestingOf, placeOf, laid as laidDown, comeIn}
+use Rattle.effects.specs.Effect.{Machine, machine}
+use Rattle.windows.proofs.Ring.{laid-low, laid-free, laid-own, laid-length, laid-nesting, in-low, in-nesting, in-free}
 use Rattle.model.specs.declared.Place.{Place}
 use Rattle.model.specs.declared.Answer.the-variants.{Accepted}
 use Rattle.model.specs.Run.{step, run}

@@ -13,7 +13,7 @@ use Rattle.numbers.specs.Number.{Below, plus, numberAt}
 use Rattle.numbers.proofs.Bounds.{plus-lt}
 use Rattle.words.specs.Conditions.{bitOf}
 use Rattle.machine.specs.Ends.{Ending, ending, go, State, live}
-use Rattle.machine.specs.Effect.{Machine}
+use Rattle.effects.specs.Effect.{Machine}
 use Rattle.model.specs.Run.{dataOf}
 use Rattle.model.specs.OldCore.{Old, old, inImage, oldNext, oldBegun}
 use Rattle.model.specs.Places.{plain}

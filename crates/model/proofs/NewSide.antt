@@ -14,7 +14,7 @@ use Rattle.words.specs.Conditions.{holdsOf}
 use Rattle.words.specs.Reader.{instructionOf}
 use Rattle.machine.specs.Ends.{Ending, ending, Next, go, halt, within}
 use Rattle.machine.specs.Registers.{addressOf}
-use Rattle.machine.specs.Effect.{Machine, effectOf}
+use Rattle.effects.specs.Effect.{Machine, effectOf}
 use Rattle.model.specs.declared.Place.{Place}
 use Rattle.model.specs.declared.Place.the-variants.{Pair, Held}
 use Rattle.model.specs.OldCore.{inImage, wordIn, Transfer, illegal, straight, trap, call, bicc, jmpl, transferOf, target}

@@ -14,7 +14,7 @@ use Rattle.words.specs.Conditions.{holdsOf, rows}
 use Rattle.words.specs.Reader.{instructionOf}
 use Rattle.machine.specs.Ends.{ending, Next, go, halt, within}
 use Rattle.machine.specs.Registers.{addressOf}
-use Rattle.machine.specs.Effect.{Machine, effectOf}
+use Rattle.effects.specs.Effect.{Machine, effectOf}
 use Rattle.model.specs.OldCore.{inImage, Transfer, illegal, straight, trap, call, bicc, jmpl, transferOf}
 use Rattle.model.specs.Records.{Rec, doWord, link, hold, goIf, goTo, goHeld, stop, unknown, Row}
 use Rattle.model.specs.NewCore.{New, new, following, fit, doesWord, holds, chooses, seek, lost, goes, stops, does}

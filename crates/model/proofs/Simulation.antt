@@ -9,7 +9,7 @@ use mathlib.Core.Option.{Option, none, some}
 use lib.ListN.{length}
 use Rattle.numbers.specs.Choice.{pick}
 use Rattle.machine.specs.Ends.{Ending, ending, live}
-use Rattle.machine.specs.Effect.{Machine}
+use Rattle.effects.specs.Effect.{Machine}
 use Rattle.machine.proofs.Ends.{RunEnd}
 use Rattle.model.specs.declared.Place.{Place}
 use Rattle.model.specs.Run.{step}

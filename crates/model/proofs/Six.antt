@@ -9,9 +9,9 @@ use mathlib.Core.Option.{Option, none, some}
 use lib.ListN.{getElem?}
 use Rattle.words.specs.Reader.{instructionOf}
 use Rattle.machine.specs.Ends.{ending, Next, go, halt, within}
-use Rattle.machine.specs.Effect.{Machine, effectOf}
+use Rattle.effects.specs.Effect.{Machine, effectOf}
 use Rattle.machine.proofs.Ends.{EndsWell}
-use Rattle.machine.proofs.Effects.{effects-end}
+use Rattle.effects.proofs.Effects.{effects-end}
 use Rattle.model.specs.OldCore.{inImage}
 use Rattle.model.specs.Records.{Rec, doWord, link, hold, goIf, goTo, goHeld, stop, unknown, rowsIn, recordsIn}
 use Rattle.model.specs.NewCore.{New, new, following, seek, lost, goes, does, newNext}

@@ -5,7 +5,7 @@ use Prim.Native.Nat.{ℕ}
 use lib.ListN.{replicate}
 use Rattle.numbers.specs.Number.{numberAt, numbersOf, upTo}
 use Rattle.machine.specs.Ends.{endingOf, endingFrom}
-use Rattle.machine.proofs.Opened.{windows-open}
+use Rattle.effects.proofs.Opened.{windows-open}
 use Rattle.model.specs.Run.{zeroed}
 use Rattle.model.specs.OldState.{startValues, isSet, oldState}
 use Rattle.model.specs.NewState.{newStartValues, newState}

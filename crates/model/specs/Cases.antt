@@ -5,8 +5,8 @@ use lib.ListN.{length, getD, set, replicate}
 use Rattle.numbers.specs.Number.{bytesOf, upTo}
 use Rattle.machine.specs.Ends.{Ending, ending, Next, State, state, live}
 use Rattle.machine.specs.Registers.{fileSize, yOf}
-use Rattle.machine.specs.Windows.{nestingOf}
-use Rattle.machine.specs.Effect.{machine}
+use Rattle.windows.specs.Windows.{nestingOf}
+use Rattle.effects.specs.Effect.{machine}
 use Rattle.model.specs.Run.{run}
 use Rattle.model.specs.OldCore.{Old, old, oldNext, oldBegun}
 use Rattle.model.specs.Records.{numbersIn}

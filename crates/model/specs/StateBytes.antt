@@ -7,8 +7,8 @@ use Rattle.numbers.specs.Number.{Below, numberAt, numbersOf, bytesOf}
 use Rattle.words.specs.Conditions.{bitOf}
 use Rattle.machine.specs.Ends.{Ending, ending, endingFrom, State, state}
 use Rattle.machine.specs.Registers.{fileSize, registerOf}
-use Rattle.machine.specs.Windows.{laid, comeIn}
-use Rattle.machine.specs.Effect.{Machine, machine}
+use Rattle.windows.specs.Windows.{laid, comeIn}
+use Rattle.effects.specs.Effect.{Machine, machine}
 use Rattle.model.specs.OldCore.{Old, old, oldNext, oldBegun}
 use Rattle.model.specs.NewCore.{New, new, newNext, newBegun}
 use Rattle.model.specs.Run.{run, zeroed, dataOf, beyond}

@@ -5,7 +5,7 @@ ghost use mathlib.Core.List.{_++_};
 ghost use lib.ListN.{length, take, drop};
 ghost use Rattle.numbers.specs.Number.{bytesOf};
 ghost use Rattle.machine.specs.Registers.{fileSize};
-ghost use Rattle.machine.specs.Windows.{laid, comeIn};
+ghost use Rattle.windows.specs.Windows.{laid, comeIn};
 ghost use Rattle.model.specs.OldCore.{target};
 ghost use Rattle.model.specs.StateBytes.{fileIn};
 ghost use Rattle.model.specs.OldState.{startValues};
@@ -139,7 +139,7 @@ pub fn file_in(bytes: &[u8], behind: usize, regs: &mut File)
     ensures { λ _. ⌜ now (regs .exit) ≡ comeIn (fileIn behind (now (bytes .entry))) ⌝ }
 {
     read_file(bytes, behind, regs);
-    machine::windows::come_in(regs);
+    windows::come_in(regs);
 }
 
 // Fills a state's bytes: the registers, the flags and a core's own numbers, and what the file has behind the registers.
@@ -157,6 +157,6 @@ pub fn put_state(bytes: &mut [u8], regs: &mut File, rest: &[u32])
     requires { ⌜ length (now bytes) ≡ 128 + 4 * length (now rest) + 4 * (fileSize - 32) ⌝ }
     ensures { λ _. ⌜ (now (regs .exit) ≡ laid (now (regs .entry))) × (now (bytes .exit) ≡ bytesOf (take 32 (laid (now (regs .entry))) ++ (now (rest .entry) ++ drop 32 (laid (now (regs .entry)))))) ⌝ }
 {
-    machine::windows::lay_down(regs);
+    windows::lay_down(regs);
     write_state(bytes, regs, rest);
 }

@@ -6,7 +6,7 @@ use Rattle.words.specs.declared.Instruction.the-variants.{Illegal, Call, Sethi,
 use Rattle.words.specs.declared.Instruction.{Instruction}
 use Rattle.words.specs.Reader.{instructionOf, asJmpl}
 use Rattle.machine.specs.Ends.{ending, halt}
-use Rattle.machine.specs.Effect.{Machine}
+use Rattle.effects.specs.Effect.{Machine}
 use Rattle.model.specs.Records.{rowAt, rowsIn, recordAt, recordsIn, recordOf, Rec, doWord, link, hold, goIf, goTo, goHeld, stop, unknown}
 use Rattle.model.specs.Places.{whichOf, idleBicc, Which, always, depends}
 use Rattle.model.specs.OldCore.{transferOf, Transfer, straight, trap}

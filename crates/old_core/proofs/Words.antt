@@ -7,7 +7,7 @@ use Rattle.words.specs.declared.Instruction.the-variants.{Illegal, Call, Sethi,
 use Rattle.words.specs.declared.Instruction.{Instruction}
 use Rattle.words.specs.Conditions.{bitOf}
 use Rattle.machine.specs.Ends.{within, live, settle, ending, halt}
-use Rattle.machine.specs.Effect.{effectOf, Machine}
+use Rattle.effects.specs.Effect.{effectOf, Machine}
 use Rattle.model.specs.OldCore.{transferOf, follows, executes, old, branches, wordIn, fetches, oldNext, straight, trap}
 use Rattle.model.specs.OldState.{isSet}
 use Rattle.model.proofs.RoundTrip.{annul-back}

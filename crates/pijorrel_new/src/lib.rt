@@ -3,7 +3,7 @@ ghost use mathlib.Core.Path.{_≡_};
 ghost use mathlib.Core.List.{List, []};
 ghost use Prim.Native.Nat.{ℕ};
 ghost use Rattle.machine.specs.Ends.{ending, endingOf};
-ghost use Rattle.machine.specs.Windows.{laid};
+ghost use Rattle.windows.specs.Windows.{laid};
 ghost use Rattle.model.specs.Run.{zeroed};
 ghost use Rattle.model.specs.NewState.{newState};
 ghost use Rattle.model.specs.StateBytes.{newIn, newBytes, after, newBegins, newRuns};

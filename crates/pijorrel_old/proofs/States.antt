@@ -1,6 +1,6 @@
 -- Laws of states and their bytes.
 use Rattle.machine.specs.Ends.{endingOf, Ending, State, ending, state}
-use Rattle.machine.specs.Effect.{Machine}
+use Rattle.effects.specs.Effect.{Machine}
 use Rattle.model.specs.declared.OldControl.{OldControl}
 use Rattle.model.specs.Run.{dataOf, beyond, lent, Lent}
 use Rattle.model.specs.OldCore.{Old, old}

@@ -2,5 +2,3 @@
 pub mod control;
 pub mod index;
 pub mod table;
-pub mod walk;
-pub mod worklist;

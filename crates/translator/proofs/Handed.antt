@@ -24,9 +24,9 @@ use Rattle.model.specs.Records.{inFull, rowsOf, recordsOf, recordsFrom, records
 use Rattle.model.specs.declared.Answer.{Answer}
 use Rattle.model.specs.declared.Answer.the-variants.{Accepted, ImageLength, Base, Entry, Forbidden, NoRoom, RecordsShort}
 use Rattle.model.proofs.Answer.{the-type as answer}
-use Rattle.places.specs.declared.worklist.Found.{Found}
-use Rattle.places.specs.declared.worklist.Found.the-variants as Found·
-use Rattle.places.specs.Walk.{seen}
+use Rattle.walks.specs.declared.worklist.Found.{Found}
+use Rattle.walks.specs.declared.worklist.Found.the-variants as Found·
+use Rattle.walks.specs.Walk.{seen}
 use Rattle.translator.specs.Handing.{placesCounted, recordsCounted, handed, cleared}
 
 -- a refusal counts nothing; the numbers are those of the variants, in the order of the enum

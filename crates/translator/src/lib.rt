@@ -9,8 +9,8 @@ ghost use Rattle.places.specs.Table.{placesIn};
 ghost use Rattle.places.specs.Index.{Tabled};
 ghost use Rattle.translator.specs.Handing.{placesCounted, recordsCounted, handed, cleared};
 use model::Answer;
-use places::walk::find_places;
-use places::worklist::Found;
+use walks::walk::find_places;
+use walks::worklist::Found;
 
 pub mod layout;
 pub mod records;

@@ -1,5 +1,5 @@
-use Rattle.machine.proofs.Effects.{effects-end, after-effect}
-use Rattle.machine.specs.Effect.{machine, Machine}
+use Rattle.effects.proofs.Effects.{effects-end, after-effect}
+use Rattle.effects.specs.Effect.{machine, Machine}
 use Rattle.model.specs.NewCore.{following, new}
 use mathlib.Core.Path.{_∙_}
 use borrow.Author.Needs.{needs}

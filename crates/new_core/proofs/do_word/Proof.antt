@@ -1,5 +1,5 @@
 use Rattle.machine.specs.Ends.{within}
-use Rattle.machine.specs.Effect.{effectOf}
+use Rattle.effects.specs.Effect.{effectOf}
 use Rattle.model.specs.Places.{mayBeHeld}
 use Rattle.model.specs.OldCore.{transferOf}
 use Rattle.model.specs.NewCore.{fit}

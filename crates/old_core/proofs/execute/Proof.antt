@@ -1,5 +1,5 @@
-use Rattle.machine.proofs.Effects.{effects-end, after-effect}
-use Rattle.machine.specs.Effect.{machine, Machine}
+use Rattle.effects.proofs.Effects.{effects-end, after-effect}
+use Rattle.effects.specs.Effect.{machine, Machine}
 use Rattle.old_core.proofs.Words.{no-transfer}
 use mathlib.Core.Path.{_∙_, sym, ap}
 use Rattle.machine.specs.Ends.{endingOf, settle}

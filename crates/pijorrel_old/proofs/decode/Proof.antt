@@ -1,4 +1,4 @@
-use Rattle.machine.proofs.Ring.{in-zeroed}
+use Rattle.windows.proofs.Ring.{in-zeroed}
 use Rattle.model.specs.Run.{zeroed}
 use Rattle.model.specs.StateBytes.{machineIn, oldIn}
 use borrow.Author.Needs.{needs}

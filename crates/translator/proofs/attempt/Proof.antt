@@ -1,6 +1,6 @@
 use Rattle.model.specs.Translation.{placeRoom}
 use Rattle.places.proofs.Chains.{index-none}
-use Rattle.places.proofs.Walking.{ready-places, ready-tabled}
+use Rattle.walks.proofs.Walking.{ready-places, ready-tabled}
 use Rattle.translator.proofs.Checking.{good-count, tr-length, tr-base, tr-count, tr-entry, tr-walk}
 use Rattle.translator.proofs.Handed.{ends-places, refused-as, ends-forbidden, ends-full}
 use Rattle.translator.specs.Handing.{placesCounted, recordsCounted}
