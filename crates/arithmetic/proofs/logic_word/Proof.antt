@@ -4,12 +4,6 @@ use borrow.Author.Needs.{needs}
 use Rattle.arithmetic.proofs.logic_word.Statement.{statement}
 use Rattle.arithmetic.proofs.logic_word.Tie as tie
 
-put-requires : tie.Need-put-requires
-put-requires c κs = search needs
-
-flags-with-requires : tie.Need-flags-with-requires
-flags-with-requires c κs = search needs
-
 returns : tie.Need-returns
 unfolding logicOf nzvcOf bitOf
 returns c = rw (c .before .if1 .taken, c .flags-with .ensures, c .before .before .put .ensures)
@@ -19,4 +13,4 @@ unfolding logicOf
 returns-2 c = rw (c .if1 .left, c .before .put .ensures)
 
 pub logic-word-spec : {M : Type 1} → statement M
-logic-word-spec = tie.close (tie.spec put-requires flags-with-requires returns returns-2)
+logic-word-spec = tie.close (tie.spec (λ c κs. search needs) (λ c κs. search needs) returns returns-2)

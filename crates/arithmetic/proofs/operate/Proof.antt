@@ -3,129 +3,6 @@ use borrow.Author.Needs.{needs}
 use Rattle.arithmetic.proofs.operate.Statement.{statement}
 use Rattle.arithmetic.proofs.operate.Tie as tie
 
-enum-told : tie.Need-enum-told
-enum-told c = search needs
-
-add-word-requires : tie.Need-add-word-requires
-add-word-requires c κs = search needs
-
-enum-told-2 : tie.Need-enum-told-2
-enum-told-2 c = search needs
-
-reg-requires : tie.Need-reg-requires
-reg-requires c κs = search needs
-
-value-requires : tie.Need-value-requires
-value-requires c κs = search needs
-
-logic-word-requires : tie.Need-logic-word-requires
-logic-word-requires c κs = search needs
-
-enum-told-3 : tie.Need-enum-told-3
-enum-told-3 c = search needs
-
-reg-requires-2 : tie.Need-reg-requires-2
-reg-requires-2 c κs = search needs
-
-value-requires-2 : tie.Need-value-requires-2
-value-requires-2 c κs = search needs
-
-logic-word-requires-2 : tie.Need-logic-word-requires-2
-logic-word-requires-2 c κs = search needs
-
-enum-told-4 : tie.Need-enum-told-4
-enum-told-4 c = search needs
-
-reg-requires-3 : tie.Need-reg-requires-3
-reg-requires-3 c κs = search needs
-
-value-requires-3 : tie.Need-value-requires-3
-value-requires-3 c κs = search needs
-
-logic-word-requires-3 : tie.Need-logic-word-requires-3
-logic-word-requires-3 c κs = search needs
-
-enum-told-5 : tie.Need-enum-told-5
-enum-told-5 c = search needs
-
-subtract-word-requires : tie.Need-subtract-word-requires
-subtract-word-requires c κs = search needs
-
-enum-told-6 : tie.Need-enum-told-6
-enum-told-6 c = search needs
-
-reg-requires-4 : tie.Need-reg-requires-4
-reg-requires-4 c κs = search needs
-
-value-requires-4 : tie.Need-value-requires-4
-value-requires-4 c κs = search needs
-
-complement-requires : tie.Need-complement-requires
-complement-requires c κs = search needs
-
-logic-word-requires-4 : tie.Need-logic-word-requires-4
-logic-word-requires-4 c κs = search needs
-
-enum-told-7 : tie.Need-enum-told-7
-enum-told-7 c = search needs
-
-reg-requires-5 : tie.Need-reg-requires-5
-reg-requires-5 c κs = search needs
-
-value-requires-5 : tie.Need-value-requires-5
-value-requires-5 c κs = search needs
-
-complement-requires-2 : tie.Need-complement-requires-2
-complement-requires-2 c κs = search needs
-
-logic-word-requires-5 : tie.Need-logic-word-requires-5
-logic-word-requires-5 c κs = search needs
-
-enum-told-8 : tie.Need-enum-told-8
-enum-told-8 c = search needs
-
-reg-requires-6 : tie.Need-reg-requires-6
-reg-requires-6 c κs = search needs
-
-value-requires-6 : tie.Need-value-requires-6
-value-requires-6 c κs = search needs
-
-complement-requires-3 : tie.Need-complement-requires-3
-complement-requires-3 c κs = search needs
-
-logic-word-requires-6 : tie.Need-logic-word-requires-6
-logic-word-requires-6 c κs = search needs
-
-enum-told-9 : tie.Need-enum-told-9
-enum-told-9 c = search needs
-
-carry-requires : tie.Need-carry-requires
-carry-requires c κs = search needs
-
-add-word-requires-2 : tie.Need-add-word-requires-2
-add-word-requires-2 c κs = search needs
-
-enum-told-10 : tie.Need-enum-told-10
-enum-told-10 c = search needs
-
-carry-requires-2 : tie.Need-carry-requires-2
-carry-requires-2 c κs = search needs
-
-subtract-word-requires-2 : tie.Need-subtract-word-requires-2
-subtract-word-requires-2 c κs = search needs
-
-enum-told-11 : tie.Need-enum-told-11
-enum-told-11 c = search needs
-
-multiply-word-requires : tie.Need-multiply-word-requires
-multiply-word-requires c κs = search needs
-
-enum-told-12 : tie.Need-enum-told-12
-enum-told-12 c = search needs
-
-multiply-word-requires-2 : tie.Need-multiply-word-requires-2
-multiply-word-requires-2 c κs = search needs
-
 returns : tie.Need-returns
 unfolding arithmeticOf outcomeOf
 returns c = rw (c .before .before .enum-told .given .1) (c .add-word .ensures)
@@ -178,56 +55,13 @@ pub operate-spec : {M : Type 1} → statement M
 operate-spec =
     tie.close
     (tie.spec
-    enum-told
-    add-word-requires
-    enum-told-2
-    reg-requires
-    value-requires
-    logic-word-requires
-    enum-told-3
-    reg-requires-2
-    value-requires-2
-    logic-word-requires-2
-    enum-told-4
-    reg-requires-3
-    value-requires-3
-    logic-word-requires-3
-    enum-told-5
-    subtract-word-requires
-    enum-told-6
-    reg-requires-4
-    value-requires-4
-    complement-requires
-    logic-word-requires-4
-    enum-told-7
-    reg-requires-5
-    value-requires-5
-    complement-requires-2
-    logic-word-requires-5
-    enum-told-8
-    reg-requires-6
-    value-requires-6
-    complement-requires-3
-    logic-word-requires-6
-    enum-told-9
-    carry-requires
-    add-word-requires-2
-    enum-told-10
-    carry-requires-2
-    subtract-word-requires-2
-    enum-told-11
-    multiply-word-requires
-    enum-told-12
-    multiply-word-requires-2
-    returns
-    returns-2
-    returns-3
-    returns-4
-    returns-5
-    returns-6
-    returns-7
-    returns-8
-    returns-9
-    returns-10
-    returns-11
-    returns-12)
+    (λ c. search needs) (λ c κs. search needs) (λ c. search needs) (λ c κs. search needs) (λ c κs. search needs)
+    (λ c κs. search needs) (λ c. search needs) (λ c κs. search needs) (λ c κs. search needs) (λ c κs. search needs)
+    (λ c. search needs) (λ c κs. search needs) (λ c κs. search needs) (λ c κs. search needs) (λ c. search needs)
+    (λ c κs. search needs) (λ c. search needs) (λ c κs. search needs) (λ c κs. search needs) (λ c κs. search needs)
+    (λ c κs. search needs) (λ c. search needs) (λ c κs. search needs) (λ c κs. search needs) (λ c κs. search needs)
+    (λ c κs. search needs) (λ c. search needs) (λ c κs. search needs) (λ c κs. search needs) (λ c κs. search needs)
+    (λ c κs. search needs) (λ c. search needs) (λ c κs. search needs) (λ c κs. search needs) (λ c. search needs)
+    (λ c κs. search needs) (λ c κs. search needs) (λ c. search needs) (λ c κs. search needs) (λ c. search needs)
+    (λ c κs. search needs) returns returns-2 returns-3 returns-4 returns-5 returns-6 returns-7 returns-8 returns-9
+    returns-10 returns-11 returns-12)

@@ -3,15 +3,9 @@ use borrow.Author.Needs.{needs}
 use Rattle.arithmetic.proofs.sll.Statement.{statement}
 use Rattle.arithmetic.proofs.sll.Tie as tie
 
-low5-requires : tie.Need-low5-requires
-low5-requires c κs = search needs
-
-shl-result : tie.Need-shl-result
-shl-result c = search needs
-
 returns : tie.Need-returns
 unfolding shiftedLeft
 returns c = rw (c .low5 .ensures)
 
 pub sll-spec : {M : Type 1} → statement M
-sll-spec = tie.close (tie.spec low5-requires shl-result returns)
+sll-spec = tie.close (tie.spec (λ c κs. search needs) (λ c. search needs) returns)

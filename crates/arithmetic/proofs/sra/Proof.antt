@@ -3,21 +3,6 @@ use borrow.Author.Needs.{needs}
 use Rattle.arithmetic.proofs.sra.Statement.{statement}
 use Rattle.arithmetic.proofs.sra.Tie as tie
 
-top-bit-requires : tie.Need-top-bit-requires
-top-bit-requires c κs = search needs
-
-complement-requires : tie.Need-complement-requires
-complement-requires c κs = search needs
-
-srl-requires : tie.Need-srl-requires
-srl-requires c κs = search needs
-
-complement-requires-2 : tie.Need-complement-requires-2
-complement-requires-2 c κs = search needs
-
-srl-requires-2 : tie.Need-srl-requires-2
-srl-requires-2 c κs = search needs
-
 returns : tie.Need-returns
 unfolding shiftedSigned
 returns c = rw (← c .before .before .before .before .top-bit .ensures, c .before .before .before .if1 .taken, ← c .before .before .complement .ensures, ← c .before .srl .ensures) (c .complement2 .ensures)
@@ -30,10 +15,5 @@ pub sra-spec : {M : Type 1} → statement M
 sra-spec =
     tie.close
     (tie.spec
-    top-bit-requires
-    complement-requires
-    srl-requires
-    complement-requires-2
-    srl-requires-2
-    returns
-    returns-2)
+    (λ c κs. search needs) (λ c κs. search needs) (λ c κs. search needs) (λ c κs. search needs) (λ c κs. search needs)
+    returns returns-2)

@@ -3,24 +3,6 @@ use borrow.Author.Needs.{needs}
 use Rattle.arithmetic.proofs.subtract_word.Statement.{statement}
 use Rattle.arithmetic.proofs.subtract_word.Tie as tie
 
-reg-requires : tie.Need-reg-requires
-reg-requires c κs = search needs
-
-value-requires : tie.Need-value-requires
-value-requires c κs = search needs
-
-subtract-requires : tie.Need-subtract-requires
-subtract-requires c κs = search needs
-
-subtract-requires-2 : tie.Need-subtract-requires-2
-subtract-requires-2 c κs = search needs
-
-put-requires : tie.Need-put-requires
-put-requires c κs = search needs
-
-difference-flags-requires : tie.Need-difference-flags-requires
-difference-flags-requires c κs = search needs
-
 returns : tie.Need-returns
 unfolding differenceOf
 returns c = rw (c .before .if1 .taken, ← c .before .before .before .before .before .before .before .before .reg .ensures, ← c .before .before .before .before .before .before .value .ensures, ← c .before .before .before .before .before .subtract .ensures, ← c .before .before .before .before .subtract2 .ensures, ← c .difference-flags .ensures, ← c .before .before .put .ensures)
@@ -33,11 +15,5 @@ pub subtract-word-spec : {M : Type 1} → statement M
 subtract-word-spec =
     tie.close
     (tie.spec
-    reg-requires
-    value-requires
-    subtract-requires
-    subtract-requires-2
-    put-requires
-    difference-flags-requires
-    returns
-    returns-2)
+    (λ c κs. search needs) (λ c κs. search needs) (λ c κs. search needs) (λ c κs. search needs) (λ c κs. search needs)
+    (λ c κs. search needs) returns returns-2)

@@ -16,29 +16,8 @@ slice-aggregate-write-numbers c =
 write-numbers-requires : tie.Need-write-numbers-requires
 write-numbers-requires c κs = let e = slice-aggregate-write-numbers c in omega (arith, e)
 
-write-numbers-requires-2 : tie.Need-write-numbers-requires-2
-write-numbers-requires-2 c κs = search needs
-
-mul-write-numbers : tie.Need-mul-write-numbers
-mul-write-numbers c = search needs
-
-add-write-numbers : tie.Need-add-write-numbers
-add-write-numbers c = search needs
-
-sub-write-numbers : tie.Need-sub-write-numbers
-sub-write-numbers c = search needs
-
-part-write-numbers-start : tie.Need-part-write-numbers-start
-part-write-numbers-start c = search needs
-
 part-write-numbers-end : tie.Need-part-write-numbers-end
 part-write-numbers-end c = search needs
-
-write-numbers-requires-3 : tie.Need-write-numbers-requires-3
-write-numbers-requires-3 c κs = search needs
-
-same-length : tie.Need-same-length
-same-length c = search needs
 
 returns : tie.Need-returns
 returns c =
@@ -57,14 +36,5 @@ pub write-state-spec : {M : Type 1} → statement M
 write-state-spec =
     tie.close
     (tie.spec
-    slice-aggregate-write-numbers
-    write-numbers-requires
-    write-numbers-requires-2
-    mul-write-numbers
-    add-write-numbers
-    sub-write-numbers
-    part-write-numbers-start
-    part-write-numbers-end
-    write-numbers-requires-3
-    same-length
-    returns)
+    slice-aggregate-write-numbers write-numbers-requires (λ c κs. search needs) (λ c. search needs) (λ c. search needs)
+    (λ c. search needs) (λ c. search needs) part-write-numbers-end (λ c κs. search needs) (λ c. search needs) returns)

@@ -3,27 +3,6 @@ use borrow.Author.Needs.{needs}
 use Rattle.windows.proofs.lay_down.Statement.{statement}
 use Rattle.windows.proofs.lay_down.Tie as tie
 
-nesting-requires : tie.Need-nesting-requires
-nesting-requires c κs = search needs
-
-place-requires : tie.Need-place-requires
-place-requires c κs = search needs
-
-copy-eight-requires : tie.Need-copy-eight-requires
-copy-eight-requires c κs = search needs
-
-place-requires-2 : tie.Need-place-requires-2
-place-requires-2 c κs = search needs
-
-copy-eight-requires-2 : tie.Need-copy-eight-requires-2
-copy-eight-requires-2 c κs = search needs
-
-place-requires-3 : tie.Need-place-requires-3
-place-requires-3 c κs = search needs
-
-copy-eight-requires-3 : tie.Need-copy-eight-requires-3
-copy-eight-requires-3 c κs = search needs
-
 returns : tie.Need-returns
 returns c =
     laid-eights _ _ _ _ (c .before .before .before .before .before .before .before .place .ensures .0) (c .before .before .before .before .place2 .ensures .0) (c .before .place3 .ensures .0) _ _ _ _
@@ -33,11 +12,5 @@ pub lay-down-spec : {M : Type 1} → statement M
 lay-down-spec =
     tie.close
     (tie.spec
-    nesting-requires
-    place-requires
-    copy-eight-requires
-    place-requires-2
-    copy-eight-requires-2
-    place-requires-3
-    copy-eight-requires-3
-    returns)
+    (λ c κs. search needs) (λ c κs. search needs) (λ c κs. search needs) (λ c κs. search needs) (λ c κs. search needs)
+    (λ c κs. search needs) (λ c κs. search needs) returns)

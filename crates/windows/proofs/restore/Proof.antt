@@ -5,18 +5,6 @@ use borrow.Author.Needs.{needs}
 use Rattle.windows.proofs.restore.Statement.{statement}
 use Rattle.windows.proofs.restore.Tie as tie
 
-nesting-requires : tie.Need-nesting-requires
-nesting-requires c κs = search needs
-
-sub-turn : tie.Need-sub-turn
-sub-turn c = search needs
-
-turn-requires : tie.Need-turn-requires
-turn-requires c κs = search needs
-
-put-requires : tie.Need-put-requires
-put-requires c κs = search needs
-
 returns : tie.Need-returns
 unfolding windowOf endingOf settle
 returns c = rw (c .put .ensures, c .before .before .turn .ensures, ← c .before .before .before .before .before .nesting .ensures, lt-ltb _ _ (c .before .before .before .before .if1 .taken))
@@ -27,4 +15,6 @@ returns-2 c = rw (← c .before .nesting .ensures, le-ltb _ _ (c .if1 .left))
 
 pub restore-spec : {M : Type 1} → statement M
 restore-spec =
-    tie.close (tie.spec nesting-requires sub-turn turn-requires put-requires returns returns-2)
+    tie.close
+    (tie.spec
+    (λ c κs. search needs) (λ c. search needs) (λ c κs. search needs) (λ c κs. search needs) returns returns-2)

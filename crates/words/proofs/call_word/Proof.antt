@@ -3,12 +3,9 @@ use borrow.Author.Needs.{needs}
 use Rattle.words.proofs.call_word.Statement.{statement}
 use Rattle.words.proofs.call_word.Tie as tie
 
-put-signed-requires : tie.Need-put-signed-requires
-put-signed-requires c κs = search needs
-
 returns : tie.Need-returns
 unfolding callWord
 returns c = c .put-signed .ensures
 
 pub call-word-spec : {M : Type 1} → statement M
-call-word-spec = tie.close (tie.spec put-signed-requires returns)
+call-word-spec = tie.close (tie.spec (λ c κs. search needs) returns)

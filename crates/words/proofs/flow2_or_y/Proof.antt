@@ -4,9 +4,6 @@ use borrow.Author.Needs.{needs}
 use Rattle.words.proofs.flow2_or_y.Statement.{statement}
 use Rattle.words.proofs.flow2_or_y.Tie as tie
 
-rdy-flow-requires : tie.Need-rdy-flow-requires
-rdy-flow-requires c κs = search needs
-
 returns : tie.Need-returns
 unfolding format2Of
 returns c = λ rs1 x. rw (c .before .if1 .taken) (c .rdy-flow .ensures _)
@@ -17,12 +14,6 @@ wry-flow-requires c κs = beside-none _ _ (c .before .before .pre)
 returns-2 : tie.Need-returns-2
 unfolding format2Of
 returns-2 c = λ rs1 x. rw (c .before .if2 .taken) (c .wry-flow .ensures _)
-
-cond-requires : tie.Need-cond-requires
-cond-requires c κs = search needs
-
-rd-requires : tie.Need-rd-requires
-rd-requires c κs = search needs
 
 flow2-requires : tie.Need-flow2-requires
 flow2-requires c κs =
@@ -36,11 +27,5 @@ pub flow2-or-y-spec : {M : Type 1} → statement M
 flow2-or-y-spec =
     tie.close
     (tie.spec
-    rdy-flow-requires
-    returns
-    wry-flow-requires
-    returns-2
-    cond-requires
-    rd-requires
-    flow2-requires
-    returns-3)
+    (λ c κs. search needs) returns wry-flow-requires returns-2 (λ c κs. search needs) (λ c κs. search needs)
+    flow2-requires returns-3)

@@ -43,14 +43,4 @@ returns-9 c = λ rd rs1 x. ap flowOf (no-row3 _ rd rs1 x (c .match .rest))
 
 pub flow3-spec : {M : Type 1} → statement M
 flow3-spec =
-    tie.close
-    (tie.spec
-    returns
-    returns-2
-    returns-3
-    returns-4
-    returns-5
-    returns-6
-    returns-7
-    returns-8
-    returns-9)
+    tie.close (tie.spec returns returns-2 returns-3 returns-4 returns-5 returns-6 returns-7 returns-8 returns-9)

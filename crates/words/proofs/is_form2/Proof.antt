@@ -8,11 +8,8 @@ use Rattle.words.proofs.is_form2.Tie as tie
 flow2-requires : tie.Need-flow2-requires
 flow2-requires c κs = (nothing-strays _, λ e. nothing-strays-y .0, λ e. nothing-strays-y .1)
 
-is-known-requires : tie.Need-is-known-requires
-is-known-requires c κs = search needs
-
 returns : tie.Need-returns
 returns c = λ rs1 x. c .is-known .ensures ∙ ap isKnown (c .before .flow2 .ensures rs1 x ∙ ap flowOf (nothing-set _))
 
 pub is-form2-spec : {M : Type 1} → statement M
-is-form2-spec = tie.close (tie.spec flow2-requires is-known-requires returns)
+is-form2-spec = tie.close (tie.spec flow2-requires (λ c κs. search needs) returns)

@@ -7,18 +7,9 @@ use borrow.Author.Needs.{needs}
 use Rattle.words.proofs.operand_strays.Statement.{statement}
 use Rattle.words.proofs.operand_strays.Tie as tie
 
-high8-requires : tie.Need-high8-requires
-high8-requires c κs = search needs
-
 returns : tie.Need-returns
 unfolding setFrom
 returns c = no-bit-high _ _ (rw (← c .before .high8 .ensures, eq-eqb _ _ (c .if1 .taken)))
-
-constant-bit-requires : tie.Need-constant-bit-requires
-constant-bit-requires c κs = search needs
-
-subtract-requires : tie.Need-subtract-requires
-subtract-requires c κs = search needs
 
 returns-2 : tie.Need-returns-2
 unfolding setFrom
@@ -34,4 +25,5 @@ returns-3 c =
 pub operand-strays-spec : {M : Type 1} → statement M
 operand-strays-spec =
     tie.close
-    (tie.spec high8-requires returns constant-bit-requires subtract-requires returns-2 returns-3)
+    (tie.spec
+    (λ c κs. search needs) returns (λ c κs. search needs) (λ c κs. search needs) returns-2 returns-3)

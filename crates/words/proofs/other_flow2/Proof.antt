@@ -53,14 +53,5 @@ pub other-flow2-spec : {M : Type 1} → statement M
 other-flow2-spec =
     tie.close
     (tie.spec
-    trap-flow-requires
-    returns
-    returns-2
-    returns-3
-    returns-4
-    returns-5
-    returns-6
-    returns-7
-    returns-8
-    returns-9
+    trap-flow-requires returns returns-2 returns-3 returns-4 returns-5 returns-6 returns-7 returns-8 returns-9
     returns-10)

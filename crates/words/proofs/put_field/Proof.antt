@@ -3,23 +3,8 @@ use borrow.Author.Needs.{needs}
 use Rattle.words.proofs.put_field.Statement.{statement}
 use Rattle.words.proofs.put_field.Tie as tie
 
-enum-known-w : tie.Need-enum-known-w
-enum-known-w c = search needs
-
-shr-if1 : tie.Need-shr-if1
-shr-if1 c = search needs
-
-shl-add : tie.Need-shl-add
-shl-add c = search needs
-
-add-requires : tie.Need-add-requires
-add-requires c κs = search needs
-
 returns : tie.Need-returns
 returns c = rw (c .before .before .before .w .given .1) (put-fits _ _ _ _ (c .before .if1 .taken) (c .add .ensures))
-
-enum-known-w-2 : tie.Need-enum-known-w-2
-enum-known-w-2 c = search needs
 
 returns-2 : tie.Need-returns-2
 returns-2 c = rw (c .before .before .w .given .1) (put-unfit _ _ _ (c .if1 .left))
@@ -30,4 +15,6 @@ returns-3 c = rw (c .before .w2 .given .1)
 pub put-field-spec : {M : Type 1} → statement M
 put-field-spec =
     tie.close
-    (tie.spec enum-known-w shr-if1 shl-add add-requires returns enum-known-w-2 returns-2 returns-3)
+    (tie.spec
+    (λ c. search needs) (λ c. search needs) (λ c. search needs) (λ c κs. search needs) returns (λ c. search needs)
+    returns-2 returns-3)

@@ -3,21 +3,6 @@ use borrow.Author.Needs.{needs}
 use Rattle.words.proofs.put_operand13.Statement.{statement}
 use Rattle.words.proofs.put_operand13.Tie as tie
 
-enum-known-x : tie.Need-enum-known-x
-enum-known-x c = search needs
-
-put-register-requires : tie.Need-put-register-requires
-put-register-requires c κs = search needs
-
-enum-known-x-2 : tie.Need-enum-known-x-2
-enum-known-x-2 c = search needs
-
-put-field-requires : tie.Need-put-field-requires
-put-field-requires c κs = search needs
-
-put-signed-requires : tie.Need-put-signed-requires
-put-signed-requires c κs = search needs
-
 returns : tie.Need-returns
 returns c = rw (c .before .before .x .given .1) (c .put-register .ensures constant13)
 
@@ -28,10 +13,5 @@ pub put-operand13-spec : {M : Type 1} → statement M
 put-operand13-spec =
     tie.close
     (tie.spec
-    enum-known-x
-    put-register-requires
-    enum-known-x-2
-    put-field-requires
-    put-signed-requires
-    returns
-    returns-2)
+    (λ c. search needs) (λ c κs. search needs) (λ c. search needs) (λ c κs. search needs) (λ c κs. search needs)
+    returns returns-2)

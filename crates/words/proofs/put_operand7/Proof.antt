@@ -3,24 +3,6 @@ use borrow.Author.Needs.{needs}
 use Rattle.words.proofs.put_operand7.Statement.{statement}
 use Rattle.words.proofs.put_operand7.Tie as tie
 
-enum-known-x : tie.Need-enum-known-x
-enum-known-x c = search needs
-
-put-register-requires : tie.Need-put-register-requires
-put-register-requires c κs = search needs
-
-enum-known-x-2 : tie.Need-enum-known-x-2
-enum-known-x-2 c = search needs
-
-put-field-requires : tie.Need-put-field-requires
-put-field-requires c κs = search needs
-
-put-field-requires-2 : tie.Need-put-field-requires-2
-put-field-requires-2 c κs = search needs
-
-put-field-requires-3 : tie.Need-put-field-requires-3
-put-field-requires-3 c κs = search needs
-
 returns : tie.Need-returns
 returns c = rw (c .before .before .x .given .1) (c .put-register .ensures constant7)
 
@@ -31,11 +13,5 @@ pub put-operand7-spec : {M : Type 1} → statement M
 put-operand7-spec =
     tie.close
     (tie.spec
-    enum-known-x
-    put-register-requires
-    enum-known-x-2
-    put-field-requires
-    put-field-requires-2
-    put-field-requires-3
-    returns
-    returns-2)
+    (λ c. search needs) (λ c κs. search needs) (λ c. search needs) (λ c κs. search needs) (λ c κs. search needs)
+    (λ c κs. search needs) returns returns-2)

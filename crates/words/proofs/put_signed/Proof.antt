@@ -5,29 +5,11 @@ use borrow.Author.Needs.{needs}
 use Rattle.words.proofs.put_signed.Statement.{statement}
 use Rattle.words.proofs.put_signed.Tie as tie
 
-add-whole : tie.Need-add-whole
-add-whole c = search needs
-
-put-field-requires : tie.Need-put-field-requires
-put-field-requires c κs = search needs
-
 returns : tie.Need-returns
 returns c = c .put-field .ensures ∙ put-low (c .before .before .args .w) (c .before .before .args .width) (c .before .before .args .half) (c .before .before .args .v) (c .before .before .pre .1) (c .before .before .pre .2) (c .before .before .pre .3) (c .before .if1 .taken)
 
-sub-if2 : tie.Need-sub-if2
-sub-if2 c = search needs
-
-rem-put-field : tie.Need-rem-put-field
-rem-put-field c = search needs
-
-put-field-requires-2 : tie.Need-put-field-requires-2
-put-field-requires-2 c κs = search needs
-
 returns-2 : tie.Need-returns-2
 returns-2 c = c .put-field2 .ensures ∙ put-high (c .before .before .before .args .w) (c .before .before .before .args .width) (c .before .before .before .args .half) (c .before .before .before .args .v) (c .before .before .before .pre .1) (c .before .before .before .pre .2) (c .before .before .before .pre .3) (c .before .before .if1 .left) (c .before .if2 .taken) (omega arith) (c .before .before .before .pre .4)
-
-put-field-requires-3 : tie.Need-put-field-requires-3
-put-field-requires-3 c κs = search needs
 
 returns-3 : tie.Need-returns-3
 returns-3 c = c .put-field3 .ensures ∙ put-none (c .before .before .before .args .w) (c .before .before .before .args .width) (c .before .before .before .args .half) (c .before .before .before .args .v) (c .before .before .before .pre .1) (c .before .before .before .pre .2) (c .before .before .before .pre .3) (c .before .before .if1 .left) (c .before .if2 .left)
@@ -36,12 +18,5 @@ pub put-signed-spec : {M : Type 1} → statement M
 put-signed-spec =
     tie.close
     (tie.spec
-    add-whole
-    put-field-requires
-    returns
-    sub-if2
-    rem-put-field
-    put-field-requires-2
-    returns-2
-    put-field-requires-3
-    returns-3)
+    (λ c. search needs) (λ c κs. search needs) returns (λ c. search needs) (λ c. search needs) (λ c κs. search needs)
+    returns-2 (λ c κs. search needs) returns-3)

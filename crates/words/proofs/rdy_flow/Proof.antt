@@ -4,9 +4,6 @@ use borrow.Author.Needs.{needs}
 use Rattle.words.proofs.rdy_flow.Statement.{statement}
 use Rattle.words.proofs.rdy_flow.Tie as tie
 
-rdy-strays-requires : tie.Need-rdy-strays-requires
-rdy-strays-requires c κs = search needs
-
 returns : tie.Need-returns
 unfolding flowOf strictly unusedSet
 returns c = λ rd. rw (← c .before .rdy-strays .ensures, c .if1 .taken)
@@ -16,4 +13,4 @@ unfolding flowOf strictly unusedSet
 returns-2 c = λ rd. rw (← c .before .rdy-strays .ensures, c .if1 .left)
 
 pub rdy-flow-spec : {M : Type 1} → statement M
-rdy-flow-spec = tie.close (tie.spec rdy-strays-requires returns returns-2)
+rdy-flow-spec = tie.close (tie.spec (λ c κs. search needs) returns returns-2)

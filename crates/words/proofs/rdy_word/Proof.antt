@@ -3,12 +3,9 @@ use borrow.Author.Needs.{needs}
 use Rattle.words.proofs.rdy_word.Statement.{statement}
 use Rattle.words.proofs.rdy_word.Tie as tie
 
-long-word-requires : tie.Need-long-word-requires
-long-word-requires c κs = search needs
-
 returns : tie.Need-returns
 unfolding rdyWord
 returns c = c .long-word .ensures
 
 pub rdy-word-spec : {M : Type 1} → statement M
-rdy-word-spec = tie.close (tie.spec long-word-requires returns)
+rdy-word-spec = tie.close (tie.spec (λ c κs. search needs) returns)

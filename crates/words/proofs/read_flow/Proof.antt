@@ -9,35 +9,17 @@ use borrow.Author.Needs.{needs}
 use Rattle.words.proofs.read_flow.Statement.{statement}
 use Rattle.words.proofs.read_flow.Tie as tie
 
-op-requires : tie.Need-op-requires
-op-requires c κs = search needs
-
-flow0-requires : tie.Need-flow0-requires
-flow0-requires c κs = search needs
-
 returns : tie.Need-returns
 unfolding byFormat
 returns c = c .flow0 .ensures ∙ ap flowOf (clear-0 _ ∙ sym (by-op _ _ 0 (c .before .before .before .op .ensures) (c .before .if2 .taken)))
-
-disp30-requires : tie.Need-disp30-requires
-disp30-requires c κs = search needs
 
 returns-2 : tie.Need-returns-2
 unfolding byFormat flowOf strictly unusedSet
 returns-2 c = ap Calls (c .disp30 .ensures) ∙ sym (ap flowOf (by-op _ _ 1 (c .before .before .before .op .ensures) (omega arith)))
 
-op3-requires : tie.Need-op3-requires
-op3-requires c κs = search needs
-
-operand-strays-requires : tie.Need-operand-strays-requires
-operand-strays-requires c κs = search needs
-
 returns-3 : tie.Need-returns-3
 unfolding flowOf
 returns-3 c = ap flowOf (strays-flow _ (omega (arith, c .before .before .before .before .op .ensures)) (rw (← c .before .before .op3 .ensures) (sym (c .before .operand-strays .ensures) ∙ c .if3 .taken)))
-
-op3-requires-2 : tie.Need-op3-requires-2
-op3-requires-2 c κs = search needs
 
 flow2-or-y-requires : tie.Need-flow2-or-y-requires
 flow2-or-y-requires c κs = rw (c .op32 .ensures, ← c .before .before .before .before .op3 .ensures) (sym (c .before .before .before .operand-strays .ensures) ∙ c .before .before .if3 .left)
@@ -49,12 +31,6 @@ returns-4 c =
       by-op _ _ 2 (c .before .before .before .before .before .before .before .op .ensures) (c .before .before .if4 .taken),
       ← c .before .op32 .ensures,
     ) (c .flow2-or-y .ensures _ _)
-
-op3-requires-3 : tie.Need-op3-requires-3
-op3-requires-3 c κs = search needs
-
-flow3-requires : tie.Need-flow3-requires
-flow3-requires c κs = search needs
 
 returns-5 : tie.Need-returns-5
 unfolding byFormat
@@ -68,17 +44,6 @@ pub read-flow-spec : {M : Type 1} → statement M
 read-flow-spec =
     tie.close
     (tie.spec
-    op-requires
-    flow0-requires
-    returns
-    disp30-requires
-    returns-2
-    op3-requires
-    operand-strays-requires
-    returns-3
-    op3-requires-2
-    flow2-or-y-requires
-    returns-4
-    op3-requires-3
-    flow3-requires
-    returns-5)
+    (λ c κs. search needs) (λ c κs. search needs) returns (λ c κs. search needs) returns-2 (λ c κs. search needs)
+    (λ c κs. search needs) returns-3 (λ c κs. search needs) flow2-or-y-requires returns-4 (λ c κs. search needs)
+    (λ c κs. search needs) returns-5)

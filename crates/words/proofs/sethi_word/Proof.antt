@@ -3,19 +3,9 @@ use borrow.Author.Needs.{needs}
 use Rattle.words.proofs.sethi_word.Statement.{statement}
 use Rattle.words.proofs.sethi_word.Tie as tie
 
-put-field-requires : tie.Need-put-field-requires
-put-field-requires c κs = search needs
-
-put-field-requires-2 : tie.Need-put-field-requires-2
-put-field-requires-2 c κs = search needs
-
-put-field-requires-3 : tie.Need-put-field-requires-3
-put-field-requires-3 c κs = search needs
-
 returns : tie.Need-returns
 unfolding sethiWord
 returns c = rw (← c .before .before .put-field .ensures, ← c .before .put-field2 .ensures) (c .put-field3 .ensures)
 
 pub sethi-word-spec : {M : Type 1} → statement M
-sethi-word-spec =
-    tie.close (tie.spec put-field-requires put-field-requires-2 put-field-requires-3 returns)
+sethi-word-spec = tie.close (tie.spec (λ c κs. search needs) (λ c κs. search needs) (λ c κs. search needs) returns)

@@ -4,15 +4,6 @@ use borrow.Author.Needs.{needs}
 use Rattle.words.proofs.shift_op3.Statement.{statement}
 use Rattle.words.proofs.shift_op3.Tie as tie
 
-enum-told : tie.Need-enum-told
-enum-told c = search needs
-
-enum-told-2 : tie.Need-enum-told-2
-enum-told-2 c = search needs
-
-enum-told-3 : tie.Need-enum-told-3
-enum-told-3 c = search needs
-
 returns : tie.Need-returns
 unfolding shiftOp3
 returns c = (rw (c .enum-told .given .1), omega arith)
@@ -26,4 +17,5 @@ unfolding shiftOp3
 returns-3 c = (rw (c .enum-told3 .given .1), omega arith)
 
 pub shift-op3-spec : {M : Type 1} → statement M
-shift-op3-spec = tie.close (tie.spec enum-told enum-told-2 enum-told-3 returns returns-2 returns-3)
+shift-op3-spec =
+    tie.close (tie.spec (λ c. search needs) (λ c. search needs) (λ c. search needs) returns returns-2 returns-3)

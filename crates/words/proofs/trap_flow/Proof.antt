@@ -5,9 +5,6 @@ use borrow.Author.Needs.{needs}
 use Rattle.words.proofs.trap_flow.Statement.{statement}
 use Rattle.words.proofs.trap_flow.Tie as tie
 
-trap-strays-requires : tie.Need-trap-strays-requires
-trap-strays-requires c κs = search needs
-
 returns : tie.Need-returns
 unfolding flowOf strictly unusedSet
 returns c = λ rs1 x. rw (c .before .before .pre, ← c .before .trap-strays .ensures, c .if1 .taken)
@@ -21,4 +18,4 @@ unfolding flowOf strictly unusedSet
 returns-3 c = λ rs1 x. rw (c .before .before .before .pre, ← c .before .before .trap-strays .ensures, c .before .if1 .left, ne-eqb _ _ (c .if2 .left))
 
 pub trap-flow-spec : {M : Type 1} → statement M
-trap-flow-spec = tie.close (tie.spec trap-strays-requires returns returns-2 returns-3)
+trap-flow-spec = tie.close (tie.spec (λ c κs. search needs) returns returns-2 returns-3)

@@ -3,96 +3,6 @@ use borrow.Author.Needs.{needs}
 use Rattle.words.proofs.write_instruction.Statement.{statement}
 use Rattle.words.proofs.write_instruction.Tie as tie
 
-enum-told : tie.Need-enum-told
-enum-told c = search needs
-
-enum-known-i : tie.Need-enum-known-i
-enum-known-i c = search needs
-
-call-word-requires : tie.Need-call-word-requires
-call-word-requires c κs = search needs
-
-enum-known-i-2 : tie.Need-enum-known-i-2
-enum-known-i-2 c = search needs
-
-sethi-word-requires : tie.Need-sethi-word-requires
-sethi-word-requires c κs = search needs
-
-enum-known-i-3 : tie.Need-enum-known-i-3
-enum-known-i-3 c = search needs
-
-branch-word-requires : tie.Need-branch-word-requires
-branch-word-requires c κs = search needs
-
-enum-known-i-4 : tie.Need-enum-known-i-4
-enum-known-i-4 c = search needs
-
-arithmetic-op3-requires : tie.Need-arithmetic-op3-requires
-arithmetic-op3-requires c κs = search needs
-
-long-word-requires : tie.Need-long-word-requires
-long-word-requires c κs = search needs
-
-enum-known-i-5 : tie.Need-enum-known-i-5
-enum-known-i-5 c = search needs
-
-long-word-requires-2 : tie.Need-long-word-requires-2
-long-word-requires-2 c κs = search needs
-
-enum-known-i-6 : tie.Need-enum-known-i-6
-enum-known-i-6 c = search needs
-
-trap-word-requires : tie.Need-trap-word-requires
-trap-word-requires c κs = search needs
-
-enum-known-i-7 : tie.Need-enum-known-i-7
-enum-known-i-7 c = search needs
-
-load-op3-requires : tie.Need-load-op3-requires
-load-op3-requires c κs = search needs
-
-long-word-requires-3 : tie.Need-long-word-requires-3
-long-word-requires-3 c κs = search needs
-
-enum-known-i-8 : tie.Need-enum-known-i-8
-enum-known-i-8 c = search needs
-
-store-op3-requires : tie.Need-store-op3-requires
-store-op3-requires c κs = search needs
-
-long-word-requires-4 : tie.Need-long-word-requires-4
-long-word-requires-4 c κs = search needs
-
-enum-known-i-9 : tie.Need-enum-known-i-9
-enum-known-i-9 c = search needs
-
-shift-op3-requires : tie.Need-shift-op3-requires
-shift-op3-requires c κs = search needs
-
-shift-word-requires : tie.Need-shift-word-requires
-shift-word-requires c κs = search needs
-
-enum-known-i-10 : tie.Need-enum-known-i-10
-enum-known-i-10 c = search needs
-
-rdy-word-requires : tie.Need-rdy-word-requires
-rdy-word-requires c κs = search needs
-
-enum-known-i-11 : tie.Need-enum-known-i-11
-enum-known-i-11 c = search needs
-
-wry-word-requires : tie.Need-wry-word-requires
-wry-word-requires c κs = search needs
-
-enum-known-i-12 : tie.Need-enum-known-i-12
-enum-known-i-12 c = search needs
-
-window-op3-requires : tie.Need-window-op3-requires
-window-op3-requires c κs = search needs
-
-long-word-requires-5 : tie.Need-long-word-requires-5
-long-word-requires-5 c κs = search needs
-
 returns : tie.Need-returns
 unfolding writtenOf
 returns c = rw (c .enum-told .given .1)
@@ -149,46 +59,11 @@ pub write-instruction-spec : {M : Type 1} → statement M
 write-instruction-spec =
     tie.close
     (tie.spec
-    enum-told
-    enum-known-i
-    call-word-requires
-    enum-known-i-2
-    sethi-word-requires
-    enum-known-i-3
-    branch-word-requires
-    enum-known-i-4
-    arithmetic-op3-requires
-    long-word-requires
-    enum-known-i-5
-    long-word-requires-2
-    enum-known-i-6
-    trap-word-requires
-    enum-known-i-7
-    load-op3-requires
-    long-word-requires-3
-    enum-known-i-8
-    store-op3-requires
-    long-word-requires-4
-    enum-known-i-9
-    shift-op3-requires
-    shift-word-requires
-    enum-known-i-10
-    rdy-word-requires
-    enum-known-i-11
-    wry-word-requires
-    enum-known-i-12
-    window-op3-requires
-    long-word-requires-5
-    returns
-    returns-2
-    returns-3
-    returns-4
-    returns-5
-    returns-6
-    returns-7
-    returns-8
-    returns-9
-    returns-10
-    returns-11
-    returns-12
-    returns-13)
+    (λ c. search needs) (λ c. search needs) (λ c κs. search needs) (λ c. search needs) (λ c κs. search needs)
+    (λ c. search needs) (λ c κs. search needs) (λ c. search needs) (λ c κs. search needs) (λ c κs. search needs)
+    (λ c. search needs) (λ c κs. search needs) (λ c. search needs) (λ c κs. search needs) (λ c. search needs)
+    (λ c κs. search needs) (λ c κs. search needs) (λ c. search needs) (λ c κs. search needs) (λ c κs. search needs)
+    (λ c. search needs) (λ c κs. search needs) (λ c κs. search needs) (λ c. search needs) (λ c κs. search needs)
+    (λ c. search needs) (λ c κs. search needs) (λ c. search needs) (λ c κs. search needs) (λ c κs. search needs)
+    returns returns-2 returns-3 returns-4 returns-5 returns-6 returns-7 returns-8 returns-9 returns-10 returns-11
+    returns-12 returns-13)

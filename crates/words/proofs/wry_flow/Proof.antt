@@ -5,9 +5,6 @@ use borrow.Author.Needs.{needs}
 use Rattle.words.proofs.wry_flow.Statement.{statement}
 use Rattle.words.proofs.wry_flow.Tie as tie
 
-rd-requires : tie.Need-rd-requires
-rd-requires c κs = search needs
-
 returns : tie.Need-returns
 unfolding flowOf strictly unusedSet wryStrays
 returns c = λ s. rw (c .before .before .pre, ← c .before .rd .ensures, ne-eqb _ _ (c .if1 .taken))
@@ -17,4 +14,4 @@ unfolding flowOf strictly unusedSet wryStrays
 returns-2 c = λ s. rw (c .before .before .pre, ← c .before .rd .ensures, c .if1 .left)
 
 pub wry-flow-spec : {M : Type 1} → statement M
-wry-flow-spec = tie.close (tie.spec rd-requires returns returns-2)
+wry-flow-spec = tie.close (tie.spec (λ c κs. search needs) returns returns-2)

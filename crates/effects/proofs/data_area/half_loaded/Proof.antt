@@ -6,12 +6,6 @@ use borrow.Author.Needs.{needs}
 use Rattle.effects.proofs.data_area.half_loaded.Statement.{statement}
 use Rattle.effects.proofs.data_area.half_loaded.Tie as tie
 
-add-subtract : tie.Need-add-subtract
-add-subtract c = search needs
-
-subtract-requires : tie.Need-subtract-requires
-subtract-requires c κs = search needs
-
 returns : tie.Need-returns
 unfolding signed
 returns c = rw (c .before .if1 .taken) (c .subtract .ensures ∙ extend-by-sum 32768 _ (omega arith) (omega arith))
@@ -20,4 +14,4 @@ returns-2 : tie.Need-returns-2
 returns-2 c = rw (c .if1 .left)
 
 pub half-loaded-spec : {M : Type 1} → statement M
-half-loaded-spec = tie.close (tie.spec add-subtract subtract-requires returns returns-2)
+half-loaded-spec = tie.close (tie.spec (λ c. search needs) (λ c κs. search needs) returns returns-2)

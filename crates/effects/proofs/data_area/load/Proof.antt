@@ -3,51 +3,6 @@ use borrow.Author.Needs.{needs}
 use Rattle.effects.proofs.data_area.load.Statement.{statement}
 use Rattle.effects.proofs.data_area.load.Tie as tie
 
-enum-told : tie.Need-enum-told
-enum-told c = search needs
-
-address-requires : tie.Need-address-requires
-address-requires c κs = search needs
-
-load-word-requires : tie.Need-load-word-requires
-load-word-requires c κs = search needs
-
-enum-told-2 : tie.Need-enum-told-2
-enum-told-2 c = search needs
-
-address-requires-2 : tie.Need-address-requires-2
-address-requires-2 c κs = search needs
-
-load-byte-requires : tie.Need-load-byte-requires
-load-byte-requires c κs = search needs
-
-enum-told-3 : tie.Need-enum-told-3
-enum-told-3 c = search needs
-
-address-requires-3 : tie.Need-address-requires-3
-address-requires-3 c κs = search needs
-
-load-half-requires : tie.Need-load-half-requires
-load-half-requires c κs = search needs
-
-enum-told-4 : tie.Need-enum-told-4
-enum-told-4 c = search needs
-
-address-requires-4 : tie.Need-address-requires-4
-address-requires-4 c κs = search needs
-
-load-byte-requires-2 : tie.Need-load-byte-requires-2
-load-byte-requires-2 c κs = search needs
-
-enum-told-5 : tie.Need-enum-told-5
-enum-told-5 c = search needs
-
-address-requires-5 : tie.Need-address-requires-5
-address-requires-5 c κs = search needs
-
-load-half-requires-2 : tie.Need-load-half-requires-2
-load-half-requires-2 c κs = search needs
-
 returns : tie.Need-returns
 unfolding widthOf signOf
 returns c = rw (c .before .before .before .before .enum-told .given .1, ← c .before .address .ensures) (c .load-word .ensures)
@@ -72,23 +27,7 @@ pub load-spec : {M : Type 1} → statement M
 load-spec =
     tie.close
     (tie.spec
-    enum-told
-    address-requires
-    load-word-requires
-    enum-told-2
-    address-requires-2
-    load-byte-requires
-    enum-told-3
-    address-requires-3
-    load-half-requires
-    enum-told-4
-    address-requires-4
-    load-byte-requires-2
-    enum-told-5
-    address-requires-5
-    load-half-requires-2
-    returns
-    returns-2
-    returns-3
-    returns-4
-    returns-5)
+    (λ c. search needs) (λ c κs. search needs) (λ c κs. search needs) (λ c. search needs) (λ c κs. search needs)
+    (λ c κs. search needs) (λ c. search needs) (λ c κs. search needs) (λ c κs. search needs) (λ c. search needs)
+    (λ c κs. search needs) (λ c κs. search needs) (λ c. search needs) (λ c κs. search needs) (λ c κs. search needs)
+    returns returns-2 returns-3 returns-4 returns-5)

@@ -6,27 +6,6 @@ use borrow.Author.Needs.{needs}
 use Rattle.effects.proofs.data_area.load_byte.Statement.{statement}
 use Rattle.effects.proofs.data_area.load_byte.Tie as tie
 
-subtract-requires : tie.Need-subtract-requires
-subtract-requires c κs = search needs
-
-cast-at : tie.Need-cast-at
-cast-at c = search needs
-
-add-if1 : tie.Need-add-if1
-add-if1 c = search needs
-
-shared-slice-read-wide : tie.Need-shared-slice-read-wide
-shared-slice-read-wide c = search needs
-
-wide-requires : tie.Need-wide-requires
-wide-requires c κs = search needs
-
-byte-loaded-requires : tie.Need-byte-loaded-requires
-byte-loaded-requires c κs = search needs
-
-put-requires : tie.Need-put-requires
-put-requires c κs = search needs
-
 returns : tie.Need-returns
 unfolding loadOf sizeOf loadedAt valueAt settle endingOf
 returns c = rw (mod-one, ← c .before .before .before .before .before .before .subtract .ensures, le-leb _ _ (c .before .before .before .before .before .if1 .taken), c .put .ensures, c .before .byte-loaded .ensures, c .before .before .wide .ensures .0)
@@ -39,12 +18,5 @@ pub load-byte-spec : {M : Type 1} → statement M
 load-byte-spec =
     tie.close
     (tie.spec
-    subtract-requires
-    cast-at
-    add-if1
-    shared-slice-read-wide
-    wide-requires
-    byte-loaded-requires
-    put-requires
-    returns
-    returns-2)
+    (λ c κs. search needs) (λ c. search needs) (λ c. search needs) (λ c. search needs) (λ c κs. search needs)
+    (λ c κs. search needs) (λ c κs. search needs) returns returns-2)

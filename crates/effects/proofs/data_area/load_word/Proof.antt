@@ -5,21 +5,6 @@ use borrow.Author.Needs.{needs}
 use Rattle.effects.proofs.data_area.load_word.Statement.{statement}
 use Rattle.effects.proofs.data_area.load_word.Tie as tie
 
-subtract-requires : tie.Need-subtract-requires
-subtract-requires c κs = search needs
-
-cast-at : tie.Need-cast-at
-cast-at c = search needs
-
-add-if2 : tie.Need-add-if2
-add-if2 c = search needs
-
-read-number-requires : tie.Need-read-number-requires
-read-number-requires c κs = search needs
-
-put-requires : tie.Need-put-requires
-put-requires c κs = search needs
-
 returns : tie.Need-returns
 unfolding loadOf sizeOf loadedAt valueAt settle endingOf
 returns c = rw (c .before .before .before .before .before .if1 .taken, ← c .before .before .before .before .subtract .ensures, le-leb _ _ (c .before .before .before .if2 .taken), c .put .ensures, c .before .read-number .ensures)
@@ -36,11 +21,5 @@ pub load-word-spec : {M : Type 1} → statement M
 load-word-spec =
     tie.close
     (tie.spec
-    subtract-requires
-    cast-at
-    add-if2
-    read-number-requires
-    put-requires
-    returns
-    returns-2
-    returns-3)
+    (λ c κs. search needs) (λ c. search needs) (λ c. search needs) (λ c κs. search needs) (λ c κs. search needs)
+    returns returns-2 returns-3)

@@ -6,23 +6,8 @@ use borrow.Author.Needs.{needs}
 use Rattle.effects.proofs.data_area.put_half.Statement.{statement}
 use Rattle.effects.proofs.data_area.put_half.Tie as tie
 
-cast-area : tie.Need-cast-area
-cast-area c = search needs
-
-slice-write-area : tie.Need-slice-write-area
-slice-write-area c = search needs
-
-cast-area-2 : tie.Need-cast-area-2
-cast-area-2 c = search needs
-
-add-area : tie.Need-add-area
-add-area c = search needs
-
 slice-write-area-2 : tie.Need-slice-write-area-2
 slice-write-area-2 c = simp length-set (omega arith)
-
-same-length : tie.Need-same-length
-same-length c = search needs
 
 returns : tie.Need-returns
 unfolding putValue
@@ -32,10 +17,5 @@ pub put-half-spec : {M : Type 1} → statement M
 put-half-spec =
     tie.close
     (tie.spec
-    cast-area
-    slice-write-area
-    cast-area-2
-    add-area
-    slice-write-area-2
-    same-length
-    returns)
+    (λ c. search needs) (λ c. search needs) (λ c. search needs) (λ c. search needs) slice-write-area-2
+    (λ c. search needs) returns)

@@ -6,24 +6,6 @@ use borrow.Author.Needs.{needs}
 use Rattle.effects.proofs.data_area.store_byte.Statement.{statement}
 use Rattle.effects.proofs.data_area.store_byte.Tie as tie
 
-subtract-requires : tie.Need-subtract-requires
-subtract-requires c κs = search needs
-
-cast-at : tie.Need-cast-at
-cast-at c = search needs
-
-add-if1 : tie.Need-add-if1
-add-if1 c = search needs
-
-cast-area : tie.Need-cast-area
-cast-area c = search needs
-
-slice-write-area : tie.Need-slice-write-area
-slice-write-area c = search needs
-
-same-length : tie.Need-same-length
-same-length c = search needs
-
 returns : tie.Need-returns
 unfolding storeOf sizeOf putValue settle endingOf
 returns c = rw (mod-one, ← c .before .subtract .ensures, le-leb _ _ (c .if1 .taken))
@@ -36,11 +18,5 @@ pub store-byte-spec : {M : Type 1} → statement M
 store-byte-spec =
     tie.close
     (tie.spec
-    subtract-requires
-    cast-at
-    add-if1
-    cast-area
-    slice-write-area
-    same-length
-    returns
-    returns-2)
+    (λ c κs. search needs) (λ c. search needs) (λ c. search needs) (λ c. search needs) (λ c. search needs)
+    (λ c. search needs) returns returns-2)

@@ -4,12 +4,6 @@ use borrow.Author.Needs.{needs}
 use Rattle.effects.proofs.effect.trap.Statement.{statement}
 use Rattle.effects.proofs.effect.trap.Tie as tie
 
-holds-requires : tie.Need-holds-requires
-holds-requires c κs = search needs
-
-address-requires : tie.Need-address-requires
-address-requires c κs = search needs
-
 returns : tie.Need-returns
 unfolding trapOf settle endingOf
 returns c = rw (← c .before .before .holds .ensures, c .before .if1 .taken, c .address .ensures)
@@ -19,4 +13,4 @@ unfolding trapOf settle endingOf
 returns-2 c = rw (← c .before .holds .ensures, c .if1 .left)
 
 pub trap-spec : {M : Type 1} → statement M
-trap-spec = tie.close (tie.spec holds-requires address-requires returns returns-2)
+trap-spec = tie.close (tie.spec (λ c κs. search needs) (λ c κs. search needs) returns returns-2)

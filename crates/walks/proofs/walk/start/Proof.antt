@@ -25,33 +25,15 @@ abbrev μ-loop : tie.MeasureT-loop
 loop-holds : tie.Need-loop-holds Inv-loop μ-loop
 loop-holds c = (refl, start-none _ _ _ _, c .before .before .pre .1)
 
-mul-read-number : tie.Need-mul-read-number Inv-loop μ-loop
-mul-read-number c = search needs
-
 read-number-requires : tie.Need-read-number-requires Inv-loop μ-loop
 read-number-requires c κs = omega arith
 
 add-plain-requires : tie.Need-add-plain-requires Inv-loop μ-loop
 add-plain-requires c κs = c .before .before .before .before .before .loop .inv .2
 
-enum-known-w : tie.Need-enum-known-w Inv-loop μ-loop
-enum-known-w c = search needs
-
-enum-known-w-2 : tie.Need-enum-known-w-2 Inv-loop μ-loop
-enum-known-w-2 c = search needs
-
-same-length : tie.Need-same-length Inv-loop μ-loop
-same-length c = search needs
-
 returns : tie.Need-returns Inv-loop μ-loop
 returns c = let b = c .before .before .before .before .before .before .before .before .before in
     ended-forbidden _ _ _ (sym (grown-forbidden _ _ (c .before .w2 .given .1)) ∙ start-turn _ _ _ _ _ _ _ _ _ (b .before .loop-test .taken) (b .read-number .ensures) (c .before .before .before .before .before .add-plain .ensures .reads) ∙ b .before .before .loop .inv .1)
-
-enum-known-w-3 : tie.Need-enum-known-w-3 Inv-loop μ-loop
-enum-known-w-3 c = search needs
-
-same-length-2 : tie.Need-same-length-2 Inv-loop μ-loop
-same-length-2 c = search needs
 
 returns-2 : tie.Need-returns-2 Inv-loop μ-loop
 returns-2 c = let b = c .before .before .before .before .before .before .before .before .before in
@@ -72,9 +54,6 @@ loop-again c = let b = c .before .before .before .before .before .before .before
       ready-places e (g .ready),
     )
 
-same-length-3 : tie.Need-same-length-3 Inv-loop μ-loop
-same-length-3 c = search needs
-
 returns-3 : tie.Need-returns-3 Inv-loop μ-loop
 returns-3 c = still (start-end _ _ _ _ _ _ (c .loop-test .left) ∙ c .before .loop .inv .1) (c .before .loop .inv .2)
 
@@ -82,21 +61,6 @@ pub start-spec : {M : Type 1} → statement M
 start-spec =
     tie.close
     (tie.spec
-    Inv-loop
-    μ-loop
-    loop-holds
-    mul-read-number
-    read-number-requires
-    add-plain-requires
-    enum-known-w
-    enum-known-w-2
-    same-length
-    returns
-    enum-known-w-3
-    same-length-2
-    returns-2
-    add-j
-    loop-less
-    loop-again
-    same-length-3
-    returns-3)
+    Inv-loop μ-loop loop-holds (λ c. search needs) read-number-requires add-plain-requires (λ c. search needs)
+    (λ c. search needs) (λ c. search needs) returns (λ c. search needs) (λ c. search needs) returns-2 add-j loop-less
+    loop-again (λ c. search needs) returns-3)

@@ -26,25 +26,10 @@ loop-holds c = (omega arith, refl, rw sub-zero, c .before .before .pre)
 handle-requires : tie.Need-handle-requires Inv-loop μ-loop
 handle-requires c κs = (c .before .before .before .loop-test .taken, c .before .before .before .before .loop .inv .3)
 
-enum-known-w : tie.Need-enum-known-w Inv-loop μ-loop
-enum-known-w c = search needs
-
-enum-known-w-2 : tie.Need-enum-known-w-2 Inv-loop μ-loop
-enum-known-w-2 c = search needs
-
-same-length : tie.Need-same-length Inv-loop μ-loop
-same-length c = search needs
-
 returns : tie.Need-returns Inv-loop μ-loop
 returns c = let d = c .before .before .before .before .before in
     let b = d .before .before .before .before .before .loop in
     ended-forbidden _ _ _ (sym (grown-forbidden _ _ (c .before .w2 .given .1)) ∙ walk-on _ _ _ _ _ _ _ _ (d .before .before .before .before .loop-test .taken) (b .inv .3 .within) (d .handle .ensures .reads) ∙ b .inv .2)
-
-enum-known-w-3 : tie.Need-enum-known-w-3 Inv-loop μ-loop
-enum-known-w-3 c = search needs
-
-same-length-2 : tie.Need-same-length-2 Inv-loop μ-loop
-same-length-2 c = search needs
 
 returns-2 : tie.Need-returns-2 Inv-loop μ-loop
 returns-2 c = let d = c .before .before .before .before .before in
@@ -68,9 +53,6 @@ loop-again c = let d = c .before .before .before .before .before in
       ready-places e (g .ready),
     )
 
-same-length-3 : tie.Need-same-length-3 Inv-loop μ-loop
-same-length-3 c = search needs
-
 returns-3 : tie.Need-returns-3 Inv-loop μ-loop
 returns-3 c = let b = c .before .loop in still (walk-end _ _ _ _ _ _ (c .loop-test .left) (b .inv .0) ∙ b .inv .2) (b .inv .3)
 
@@ -78,19 +60,5 @@ pub walk-spec : {M : Type 1} → statement M
 walk-spec =
     tie.close
     (tie.spec
-    Inv-loop
-    μ-loop
-    loop-holds
-    handle-requires
-    enum-known-w
-    enum-known-w-2
-    same-length
-    returns
-    enum-known-w-3
-    same-length-2
-    returns-2
-    add-i
-    loop-less
-    loop-again
-    same-length-3
-    returns-3)
+    Inv-loop μ-loop loop-holds handle-requires (λ c. search needs) (λ c. search needs) (λ c. search needs) returns
+    (λ c. search needs) (λ c. search needs) returns-2 add-i loop-less loop-again (λ c. search needs) returns-3)

@@ -9,27 +9,9 @@ use borrow.Author.Needs.{needs}
 use Rattle.walks.proofs.worklist.add.Statement.{statement}
 use Rattle.walks.proofs.worklist.add.Tie as tie
 
-find-requires : tie.Need-find-requires
-find-requires c κs = search needs
-
-same-length : tie.Need-same-length
-same-length c = search needs
-
 returns : tie.Need-returns
 returns c = let r = c .before .before .before .before .before .before .pre .0 in
     rw (counts _ (r .within)) (still (add-present _ _ _ _ _ _ _ (c .before .find .ensures) (c .if1 .taken)) r)
-
-write-place-requires : tie.Need-write-place-requires
-write-place-requires c κs = search needs
-
-enter-requires : tie.Need-enter-requires
-enter-requires c κs = search needs
-
-add-result : tie.Need-add-result
-add-result c = search needs
-
-same-length-2 : tie.Need-same-length-2
-same-length-2 c = search needs
 
 returns-2 : tie.Need-returns-2
 returns-2 c = let f = c .before .before .before .before .before in
@@ -43,12 +25,6 @@ returns-2 c = let f = c .before .before .before .before .before in
     (still (add-new _ _ _ _ _ _ _ (g .find .ensures) (t .before .if1 .left) (t .if2 .taken) (s .pre .0 .fits) (omega (arith, bp)) (omega (arith, bn)) (omega arith))
     (ready-put _ _ _ _ _ (s .pre .0) (t .if2 .taken) (omega (arith, bp)) (omega (arith, bn)) (omega arith) (s .pre .1) (add-absent _ _ (s .args .room) _ _ _ _ (g .find .ensures) (t .before .if1 .left))))
 
-add-result-2 : tie.Need-add-result-2
-add-result-2 c = search needs
-
-same-length-3 : tie.Need-same-length-3
-same-length-3 c = search needs
-
 returns-3 : tie.Need-returns-3
 returns-3 c = rw (counts-none (c .before .before .before .before .before .before .before .args .room) (c .before .before .before .before .before .before .before .args .p .0)) (ended-full _ _ _ (add-full _ _ _ _ _ _ _ (c .before .before .find .ensures) (c .before .if1 .left) (c .if2 .left)))
 
@@ -56,14 +32,5 @@ pub add-spec : {M : Type 1} → statement M
 add-spec =
     tie.close
     (tie.spec
-    find-requires
-    same-length
-    returns
-    write-place-requires
-    enter-requires
-    add-result
-    same-length-2
-    returns-2
-    add-result-2
-    same-length-3
-    returns-3)
+    (λ c κs. search needs) (λ c. search needs) returns (λ c κs. search needs) (λ c κs. search needs)
+    (λ c. search needs) (λ c. search needs) returns-2 (λ c. search needs) (λ c. search needs) returns-3)

@@ -4,53 +4,20 @@ use borrow.Author.Needs.{needs}
 use Rattle.walks.proofs.worklist.add_branch.Statement.{statement}
 use Rattle.walks.proofs.worklist.add_branch.Tie as tie
 
-untaken-requires : tie.Need-untaken-requires
-untaken-requires c κs = search needs
-
-add-plain-requires : tie.Need-add-plain-requires
-add-plain-requires c κs = search needs
-
-same-length : tie.Need-same-length
-same-length c = search needs
-
 returns : tie.Need-returns
 returns c = let b = c .before .before .before .before .before .before .before in
     let s = b .before .before in
     rw (never-names (s .args .cond) (s .args .annul) (s .args .t .0) (s .args .n .0) (b .if1 .taken), ← c .before .before .before .untaken .ensures) (c .before .before .add-plain .ensures)
-
-add-plain-requires-2 : tie.Need-add-plain-requires-2
-add-plain-requires-2 c κs = search needs
-
-same-length-2 : tie.Need-same-length-2
-same-length-2 c = search needs
 
 returns-2 : tie.Need-returns-2
 returns-2 c = let b = c .before .before .before .before .before .before in
     let s = b .before .before .before .before in
     rw (always-annuls (s .args .cond) (s .args .annul) (s .args .t .0) (s .args .n .0) (b .before .if2 .taken) (b .if3 .taken)) (c .before .before .add-plain2 .ensures)
 
-add-pair-requires : tie.Need-add-pair-requires
-add-pair-requires c κs = search needs
-
-same-length-3 : tie.Need-same-length-3
-same-length-3 c = search needs
-
 returns-3 : tie.Need-returns-3
 returns-3 c = let b = c .before .before .before .before .before .before in
     let s = b .before .before .before .before in
     rw (always-names (s .args .cond) (s .args .annul) (s .args .t .0) (s .args .n .0) (b .before .if2 .taken) (b .if3 .left)) (c .before .before .add-pair .ensures)
-
-untaken-requires-2 : tie.Need-untaken-requires-2
-untaken-requires-2 c κs = search needs
-
-add-plain-requires-3 : tie.Need-add-plain-requires-3
-add-plain-requires-3 c κs = search needs
-
-then-pair-requires : tie.Need-then-pair-requires
-then-pair-requires c κs = search needs
-
-same-length-4 : tie.Need-same-length-4
-same-length-4 c = search needs
 
 returns-4 : tie.Need-returns-4
 returns-4 c = let b = c .before .before .before .before .before .before .before .before in
@@ -63,18 +30,6 @@ pub add-branch-spec : {M : Type 1} → statement M
 add-branch-spec =
     tie.close
     (tie.spec
-    untaken-requires
-    add-plain-requires
-    same-length
-    returns
-    add-plain-requires-2
-    same-length-2
-    returns-2
-    add-pair-requires
-    same-length-3
-    returns-3
-    untaken-requires-2
-    add-plain-requires-3
-    then-pair-requires
-    same-length-4
-    returns-4)
+    (λ c κs. search needs) (λ c κs. search needs) (λ c. search needs) returns (λ c κs. search needs)
+    (λ c. search needs) returns-2 (λ c κs. search needs) (λ c. search needs) returns-3 (λ c κs. search needs)
+    (λ c κs. search needs) (λ c κs. search needs) (λ c. search needs) returns-4)

@@ -7,14 +7,8 @@ use Rattle.walks.proofs.worklist.add_held.Tie as tie
 add-requires : tie.Need-add-requires
 add-requires c κs = (c .before .before .before .before .pre, shows-held _)
 
-counted-requires : tie.Need-counted-requires
-counted-requires c κs = search needs
-
-same-length : tie.Need-same-length
-same-length c = search needs
-
 returns : tie.Need-returns
 returns c = known-place _ (place-held _) (c .counted .ensures) (c .before .before .before .add .ensures)
 
 pub add-held-spec : {M : Type 1} → statement M
-add-held-spec = tie.close (tie.spec add-requires counted-requires same-length returns)
+add-held-spec = tie.close (tie.spec add-requires (λ c κs. search needs) (λ c. search needs) returns)

@@ -6,27 +6,9 @@ use borrow.Author.Needs.{needs}
 use Rattle.walks.proofs.worklist.add_jump.Statement.{statement}
 use Rattle.walks.proofs.worklist.add_jump.Tie as tie
 
-add-held-requires : tie.Need-add-held-requires
-add-held-requires c κs = search needs
-
-same-length : tie.Need-same-length
-same-length c = search needs
-
 returns : tie.Need-returns
 unfolding names transferred
 returns c = rw (eq-eqb _ _ (c .if1 .taken)) (c .before .before .before .add-held .ensures)
-
-further-requires : tie.Need-further-requires
-further-requires c κs = search needs
-
-then-plain-requires : tie.Need-then-plain-requires
-then-plain-requires c κs = search needs
-
-then-past-requires : tie.Need-then-past-requires
-then-past-requires c κs = search needs
-
-same-length-2 : tie.Need-same-length-2
-same-length-2 c = search needs
 
 returns-2 : tie.Need-returns-2
 unfolding names transferred
@@ -40,11 +22,5 @@ pub add-jump-spec : {M : Type 1} → statement M
 add-jump-spec =
     tie.close
     (tie.spec
-    add-held-requires
-    same-length
-    returns
-    further-requires
-    then-plain-requires
-    then-past-requires
-    same-length-2
-    returns-2)
+    (λ c κs. search needs) (λ c. search needs) returns (λ c κs. search needs) (λ c κs. search needs)
+    (λ c κs. search needs) (λ c. search needs) returns-2)

@@ -4,20 +4,8 @@ use borrow.Author.Needs.{needs}
 use Rattle.walks.proofs.worklist.then_pair.Statement.{statement}
 use Rattle.walks.proofs.worklist.then_pair.Tie as tie
 
-enum-known-w : tie.Need-enum-known-w
-enum-known-w c = search needs
-
 add-pair-requires : tie.Need-add-pair-requires
 add-pair-requires c κs = ready-places (c .before .before .before .before .w .given .1) (c .before .before .before .before .before .before .before .pre)
-
-enum-known-w-2 : tie.Need-enum-known-w-2
-enum-known-w-2 c = search needs
-
-enum-known-w-3 : tie.Need-enum-known-w-3
-enum-known-w-3 c = search needs
-
-same-length : tie.Need-same-length
-same-length c = search needs
 
 returns : tie.Need-returns
 returns c = known-by (sym (grown-places _ _ (c .before .before .before .before .before .before .before .w .given .1))) (c .before .before .add-pair .ensures)
@@ -32,11 +20,5 @@ pub then-pair-spec : {M : Type 1} → statement M
 then-pair-spec =
     tie.close
     (tie.spec
-    enum-known-w
-    add-pair-requires
-    enum-known-w-2
-    enum-known-w-3
-    same-length
-    returns
-    returns-2
+    (λ c. search needs) add-pair-requires (λ c. search needs) (λ c. search needs) (λ c. search needs) returns returns-2
     returns-3)

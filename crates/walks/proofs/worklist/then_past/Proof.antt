@@ -6,32 +6,14 @@ use borrow.Author.Needs.{needs}
 use Rattle.walks.proofs.worklist.then_past.Statement.{statement}
 use Rattle.walks.proofs.worklist.then_past.Tie as tie
 
-enum-known-w : tie.Need-enum-known-w
-enum-known-w c = search needs
-
-unimp-behind-requires : tie.Need-unimp-behind-requires
-unimp-behind-requires c κs = search needs
-
-further-requires : tie.Need-further-requires
-further-requires c κs = search needs
-
 add-plain-requires : tie.Need-add-plain-requires
 add-plain-requires c κs = let b = c .before .before .before .before .before .before .before in
     ready-places (b .w .given .1) (b .before .before .before .before .pre)
-
-same-length : tie.Need-same-length
-same-length c = search needs
 
 returns : tie.Need-returns
 returns c = let b = c .before .before .before .before .before .before .before in
     rw (← b .before .unimp-behind .ensures, b .if1 .taken)
     (known-by (sym (grown-places _ _ (b .before .before .before .w .given .1))) (rw (c .before .before .before .further .ensures) at (c .before .before .add-plain .ensures)))
-
-enum-known-w-2 : tie.Need-enum-known-w-2
-enum-known-w-2 c = search needs
-
-enum-known-w-3 : tie.Need-enum-known-w-3
-enum-known-w-3 c = search needs
 
 returns-2 : tie.Need-returns-2
 unfolding grow seen
@@ -48,14 +30,5 @@ pub then-past-spec : {M : Type 1} → statement M
 then-past-spec =
     tie.close
     (tie.spec
-    enum-known-w
-    unimp-behind-requires
-    further-requires
-    add-plain-requires
-    same-length
-    returns
-    enum-known-w-2
-    enum-known-w-3
-    returns-2
-    returns-3
-    returns-4)
+    (λ c. search needs) (λ c κs. search needs) (λ c κs. search needs) add-plain-requires (λ c. search needs) returns
+    (λ c. search needs) (λ c. search needs) returns-2 returns-3 returns-4)
