@@ -22,7 +22,8 @@ from cases import Census, read_cases
 from statements import BATCH, SHOWN, equations, given, spoiled, written
 
 TOP = Path(__file__).resolve().parent.parent.parent
-CRATES = ("numbers", "words", "machine", "model")
+LISTED = dict(line.split(":") for line in (TOP / "crates.txt").read_text().splitlines())
+CRATES = (*reversed(LISTED["model"].split()), "model")
 BATCH_SIZE = 50
 REFUSED = re.compile(r"\S*/specs/Batch\d+\.antt:\d+:\d+: error: `(\w+)-(\d+)`")
 DIFFERS = re.compile(r"computed as far as they go, .* has `(.*)` \(expected\).* has `(.*)` \(found\)")

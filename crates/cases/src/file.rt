@@ -3,7 +3,7 @@ ghost use mathlib.Core.Path.{_≡_};
 ghost use Prim.Native.Nat.{_+_, _≤_, _<_, _^_, min};
 ghost use lib.ListN.{length, getD};
 ghost use Rattle.cases.specs.Files.{numberIn, partOf, paddedTo, copied, holding, oneEntry, oldParts};
-use model::OLD_STATE;
+use states::OLD_STATE;
 
 // What is found of a case: where the next one starts, how many of its entries agree before one that does not, and whether all agrees,
 // with what is no entry, as the data after the last.

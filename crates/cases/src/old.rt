@@ -12,7 +12,7 @@ use crate::file::number;
 use crate::file::one;
 use crate::file::part;
 use machine::Ended;
-use model::OLD_STATE;
+use states::OLD_STATE;
 
 // What a case starts with.
 const TAG: u32 = 0x4F4C4443;

@@ -12,7 +12,7 @@ use crate::file::one;
 use crate::file::padded;
 use crate::file::part;
 use machine::Ended;
-use model::NEW_STATE;
+use states::NEW_STATE;
 
 // What a case starts with.
 const TAG: u32 = 0x4E455743;

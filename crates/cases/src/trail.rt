@@ -9,8 +9,8 @@ use crate::file::copy;
 use crate::file::locate;
 use crate::file::number;
 use crate::file::part;
-use model::OLD_BEHIND;
-use model::OLD_STATE;
+use states::OLD_BEHIND;
+use states::OLD_STATE;
 
 // What a program starts with.
 const TAG: u32 = 0x5452414C;

@@ -1,4 +1,4 @@
-// What both cores share: registers, Y and register windows, flags, the data area, how a run ended, and the words that do not transfer control.
+// What both cores share: the register file, flags, the two counters, and how a run ended.
 ghost use mathlib.Core.Path.{_≡_};
 ghost use Prim.Native.Nat.{_<_};
 ghost use Rattle.numbers.specs.Number.{plus};

@@ -21,8 +21,7 @@ use Rattle.effects.proofs.Bounds.{Sound, SoundEnd, held}
 use Rattle.windows.proofs.Ring.{laid-low, laid-length, laid-below, shown-in, in-below, held-in}
 use Rattle.machine.proofs.Zero.{Zero, set-zero}
 use Rattle.model.specs.Run.{zeroed, dataOf, beyond}
-use Rattle.model.specs.OldState.{isSet}
-use Rattle.model.specs.StateBytes.{fileIn, machineIn, stateNumbers}
+use Rattle.model.specs.StateBytes.{isSet, fileIn, machineIn, stateNumbers}
 
 -- ---------------------------------------------------------------- the data of a lent area
 -- a part as long as the data, with what lies beyond it, has that data and that rest

@@ -14,7 +14,7 @@ ghost use Rattle.model.specs.OldCore.{transferOf, inImage};
 ghost use Rattle.model.specs.Places.{whichOf, idleBicc};
 ghost use Rattle.model.specs.Records.{rowsIn, recordAt};
 ghost use Rattle.model.specs.NewCore.{new, following, fit, holds, chooses, seek, lost, goes, stops, does, newNext, newBegun};
-ghost use Rattle.model.specs.NewState.{newOf, newState};
+ghost use Rattle.states.specs.NewState.{newOf, newState};
 ghost use Rattle.new_core.specs.Sought.{soughtOf};
 use effects::effect::perform;
 use machine::End;
@@ -24,7 +24,7 @@ use machine::TargetPc;
 use machine::registers::File;
 use machine::registers::address;
 use machine::registers::put;
-use model::NewControl;
+use states::NewControl;
 use words::Instruction;
 
 // The next record.

@@ -9,7 +9,7 @@ use Rattle.words.specs.Conditions.{bitOf}
 use Rattle.machine.specs.Ends.{within, live, settle, ending, halt}
 use Rattle.effects.specs.Effect.{effectOf, Machine}
 use Rattle.model.specs.OldCore.{transferOf, follows, executes, old, branches, wordIn, fetches, oldNext, straight, trap}
-use Rattle.model.specs.OldState.{isSet}
+use Rattle.model.specs.StateBytes.{isSet}
 use Rattle.model.proofs.RoundTrip.{annul-back}
 use denote.Enum.Declared.{tagOf}
 use types.Run.{OneOf, miss}

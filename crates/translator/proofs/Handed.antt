@@ -6,9 +6,9 @@ use Rattle.numbers.specs.Number.{upTo, numbersOf, bytesOf, zeroFrom}
 use Rattle.model.specs.declared.Place.{Place}
 use Rattle.places.proofs.Rows.{length-places}
 use Rattle.places.specs.Table.{placesIn}
-use Rattle.translator.proofs.Laying.{first-laid}
-use Rattle.translator.proofs.Putting.{records-same, records-length}
-use Rattle.translator.specs.Layout.{firstIn, Laid}
+use Rattle.groups.proofs.Laying.{first-laid}
+use Rattle.groups.proofs.Putting.{records-same, records-length}
+use Rattle.groups.specs.Layout.{firstIn, Laid}
 use borrow.Author.Tests.{le-leb, lt-leb}
 use lib.Seq.{length-take-le}
 use lib.ListN.{length, getD, take, replicate}

@@ -53,7 +53,7 @@ fn handle(
     let f = fetch(image, base, p);
     match f {
         Fetched::Word(word) => {
-            let flow = words::read_flow(word);
+            let flow = flows::read_flow(word);
             if is_held(places, at) {
                 return handle_held(count, flow, p);
             }

@@ -1,7 +1,7 @@
 use Rattle.model.proofs.Runs.{lent-back}
 use Rattle.model.specs.Run.{zeroed}
 use Rattle.model.specs.NewCore.{newNext}
-use Rattle.model.specs.NewState.{newState}
+use Rattle.states.specs.NewState.{newState}
 use lib.Seq.{length-take-le}
 use native.Mathlib.Omega.{arith}
 use mathlib.Core.Path.{sym}

@@ -1,7 +1,7 @@
 use Rattle.model.proofs.Runs.{run-on, run-done, run-ended, step-going}
 use Rattle.model.specs.Run.{run}
 use Rattle.model.specs.NewCore.{newNext}
-use Rattle.model.specs.NewState.{newState}
+use Rattle.states.specs.NewState.{newState}
 use borrow.Author.Tests.{not-true, not-false}
 use borrow.Author.Needs.{needs}
 use lib.ListN.{length}

@@ -1,7 +1,7 @@
 use Rattle.model.specs.Run.{zeroed}
 use Rattle.machine.specs.Ends.{endingOf}
 use Rattle.model.specs.OldCore.{oldBegun}
-use Rattle.model.specs.OldState.{isSet}
+use Rattle.model.specs.StateBytes.{isSet}
 use borrow.Author.Needs.{needs}
 use Rattle.old_core.proofs.begin.Statement.{statement}
 use Rattle.old_core.proofs.begin.Tie as tie

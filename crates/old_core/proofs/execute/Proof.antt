@@ -4,7 +4,8 @@ use Rattle.old_core.proofs.Words.{no-transfer}
 use mathlib.Core.Path.{_∙_, sym, ap}
 use Rattle.machine.specs.Ends.{endingOf, settle}
 use Rattle.model.specs.OldCore.{transferOf, executes, follows, old}
-use Rattle.model.specs.OldState.{isSet, oldOf}
+use Rattle.model.specs.StateBytes.{isSet}
+use Rattle.states.specs.OldState.{oldOf}
 use borrow.Author.Needs.{needs}
 use Rattle.old_core.proofs.execute.Statement.{statement}
 use Rattle.old_core.proofs.execute.Tie as tie

@@ -1,5 +1,5 @@
 use Rattle.model.specs.OldCore.{follows}
-use Rattle.model.specs.OldState.{isSet}
+use Rattle.model.specs.StateBytes.{isSet}
 use mathlib.Core.Path.{_∙_}
 use borrow.Author.Needs.{needs}
 use Rattle.old_core.proofs.follow.Statement.{statement}

@@ -1,6 +1,6 @@
 use Rattle.machine.specs.Ends.{endingOf, settle}
 use Rattle.model.specs.OldCore.{jumps}
-use Rattle.model.specs.OldState.{isSet}
+use Rattle.model.specs.StateBytes.{isSet}
 use borrow.Author.Tests.{eq-eqb, ne-eqb}
 use borrow.Author.Needs.{needs}
 use Rattle.old_core.proofs.jump.Statement.{statement}

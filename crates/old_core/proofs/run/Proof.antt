@@ -1,7 +1,7 @@
 use Rattle.model.specs.Run.{zeroed}
 use Rattle.model.specs.OldCore.{oldNext}
 use Rattle.model.proofs.Runs.{lent-back}
-use Rattle.model.specs.OldState.{oldState}
+use Rattle.states.specs.OldState.{oldState}
 use lib.Seq.{length-take-le}
 use native.Mathlib.Omega.{arith}
 use mathlib.Core.Path.{sym}

@@ -1,7 +1,7 @@
 use Rattle.model.proofs.Runs.{run-on, run-done, run-ended, step-going}
 use Rattle.model.specs.Run.{run}
 use Rattle.model.specs.OldCore.{oldNext}
-use Rattle.model.specs.OldState.{oldState}
+use Rattle.states.specs.OldState.{oldState}
 use borrow.Author.Tests.{not-true, not-false}
 use borrow.Author.Needs.{needs}
 use lib.ListN.{length}

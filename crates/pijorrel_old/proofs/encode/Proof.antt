@@ -1,5 +1,4 @@
-use Rattle.model.specs.OldState.{isSet}
-use Rattle.model.specs.StateBytes.{oldBytes}
+use Rattle.model.specs.StateBytes.{isSet, oldBytes}
 use borrow.Author.Needs.{needs}
 use Rattle.pijorrel_old.proofs.encode.Statement.{statement}
 use Rattle.pijorrel_old.proofs.encode.Tie as tie

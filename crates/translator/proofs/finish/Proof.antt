@@ -2,7 +2,7 @@ use Rattle.places.proofs.Rows.{length-places}
 use Rattle.places.specs.Table.{placesIn}
 use Rattle.places.proofs.Chains.{index-same}
 use Rattle.translator.proofs.Handed.{finish-short, finish-whole}
-use Rattle.translator.proofs.Laying.{needed-le}
+use Rattle.groups.proofs.Laying.{needed-le}
 use native.Mathlib.Omega.{arith}
 use mathlib.Core.Path.{refl}
 use borrow.Author.Needs.{needs}
