@@ -16,25 +16,25 @@ use mathlib.Core.List.{List, [], _∷_, _++_, append-nil, append-assoc}
 use mathlib.Core.Bool.{Bool, true, false}
 use mathlib.Core.Path.{_≡_, refl, sym, ap, _∙_}
 use Prim.Native.Nat.{ℕ, suc, _+_, _*_, _^_, _≤_, _<_}
-use Rattle.model.specs.Records.{inFull, Group, one, two, group, past, first, rowsFrom, tableNumbers}
+use Rattle.model.specs.Records.{Group, one, two, past, Grouping, first, rowsFrom, tableNumbers}
 use Rattle.model.proofs.Groups.{past-add, past-le}
 use Rattle.places.specs.Table.{placeIn, ShowsIn, SameRow, placesIn, numberOf}
 use Rattle.groups.specs.Layout.{size, needed, firstIn, Laid}
 
-module _ (image : List ℕ) (base : ℕ) where
-  pub needed-le : (ps : List Place) → needed image base ps ≤ 2 * length ps
+module _ (lay : Grouping) where
+  pub needed-le : (ps : List Place) → needed lay ps ≤ 2 * length ps
   unfolding needed
   needed-le [] = omega arith
-  needed-le (y ∷ ys) = omega (arith, past-le (group image base y) (needed image base ys), needed-le ys)
+  needed-le (y ∷ ys) = omega (arith, past-le (lay y ys) (needed lay ys), needed-le ys)
 
   -- what is left after a place, with its group
-  module _ {x : Place} {ps qs : List Place} {g : Group Place} (c : ps ≡ x ∷ qs) (e : g ≡ group image base x) where
-    pub needed-turn : (n all : ℕ) → n + needed image base ps ≡ all → past g n + needed image base qs ≡ all
+  module _ {x : Place} {ps qs : List Place} {g : Group Place} (c : ps ≡ x ∷ qs) (e : g ≡ lay x qs) where
+    pub needed-turn : (n all : ℕ) → n + needed lay ps ≡ all → past g n + needed lay qs ≡ all
     unfolding needed
-    needed-turn n all h = past-add g n (needed image base qs) ∙ (rw (c, ← e) at h)
+    needed-turn n all h = past-add g n (needed lay qs) ∙ (rw (c, ← e) at h)
 
-    pub rows-turn : (n : ℕ) → tableNumbers (rowsFrom (inFull image base) n ps)
-        ≡ (placeAt x ∷ nextOf x ∷ kindOf x ∷ n ∷ []) ++ tableNumbers (rowsFrom (inFull image base) (past g n) qs)
+    pub rows-turn : (n : ℕ) → tableNumbers (rowsFrom lay n ps)
+        ≡ (placeAt x ∷ nextOf x ∷ kindOf x ∷ n ∷ []) ++ tableNumbers (rowsFrom lay (past g n) qs)
     unfolding rowsFrom tableNumbers
     rows-turn n = rw (c, e)
 
@@ -101,26 +101,26 @@ pub row-trans : (l m o : List ℕ) (j : ℕ) → SameRow l m j → SameRow m o j
 row-trans l m o j s t = (s .0 ∙ t .0, s .1 ∙ t .1, s .2 ∙ t .2)
 
 -- a turn of the layout, and its end
-abbrev pub Laying : List ℕ → ℕ → List ℕ → List Place → ℕ → ℕ → Type 0
-Laying image base l ps i n =
-    (n + needed image base (drop i ps) ≡ needed image base ps)
-    × (numbersOf l (4 * i) ++ tableNumbers (rowsFrom (inFull image base) n (drop i ps)) ≡ tableNumbers (rowsFrom (inFull image base) 0 ps))
+abbrev pub Laying : Grouping → List ℕ → List Place → ℕ → ℕ → Type 0
+Laying lay l ps i n =
+    (n + needed lay (drop i ps) ≡ needed lay ps)
+    × (numbersOf l (4 * i) ++ tableNumbers (rowsFrom lay n (drop i ps)) ≡ tableNumbers (rowsFrom lay 0 ps))
 
-module _ (image : List ℕ) (base : ℕ) (l l0 : List ℕ) (count i n : ℕ) (same : (j : ℕ) → SameRow l l0 j) where
-  pub lay-turn : {k : ℕ} → i < count → k ≡ size (group image base (placeIn l i)) → ShowsIn l0 i → 16 * i + 16 ≤ length l → n < 2 ^ 32
-      → Laying image base l (placesIn l0 count) i n
-      → Laying image base (putNumber l (16 * i + 12) n) (placesIn l0 count) (i + 1) (n + k)
+module _ (lay : Grouping) (l l0 : List ℕ) (count i n : ℕ) (same : (j : ℕ) → SameRow l l0 j) where
+  pub lay-turn : {k : ℕ} → i < count → k ≡ size (lay (placeIn l i) (drop (i + 1) (placesIn l0 count))) → ShowsIn l0 i → 16 * i + 16 ≤ length l → n < 2 ^ 32
+      → Laying lay l (placesIn l0 count) i n
+      → Laying lay (putNumber l (16 * i + 12) n) (placesIn l0 count) (i + 1) (n + k)
   lay-turn {k} h ek s room b y =
       let x = placeIn l i in
-      let g = group image base x in
+      let g = lay x (drop (i + 1) (placesIn l0 count)) in
       let c : drop i (placesIn l0 count) ≡ x ∷ drop (i + 1) (placesIn l0 count) = next-place l0 count i (place-same l l0 i (same i)) h in
       let m : n + k ≡ past g n = ap (λ (v : ℕ). n + v) ek ∙ sym (past-size g n) in
       rw (m, row-put l i n (shows-same l l0 i (same i) s) room b) (
-        needed-turn image base c refl n (needed image base (placesIn l0 count)) (y .0),
-        rw append-assoc (rw (rows-turn image base c refl n) at (y .1)),
+        needed-turn lay c refl n (needed lay (placesIn l0 count)) (y .0),
+        rw append-assoc (rw (rows-turn lay c refl n) at (y .1)),
       )
 
-  pub lay-end : i ≤ count → count ≤ i → Laying image base l (placesIn l0 count) i n → Laid image base (placesIn l0 count) count l n
+  pub lay-end : i ≤ count → count ≤ i → Laying lay l (placesIn l0 count) i n → Laid lay (placesIn l0 count) count l n
   unfolding needed rowsFrom tableNumbers
   lay-end h k y =
       let e : i ≡ count = omega arith in
@@ -132,30 +132,30 @@ module _ (image : List ℕ) (base : ℕ) (l l0 : List ℕ) (count i n : ℕ) (sa
       }
 
 -- the first record of a place that is in the list stands in its row; of another it is the number of all records
-module _ (image : List ℕ) (base : ℕ) (x : Place) where
+module _ (lay : Grouping) (x : Place) where
   first-there : (n : ℕ) (ps : List Place) → numberOf x ps < length ps
-      → n + first (inFull image base) ps x ≡ getD (tableNumbers (rowsFrom (inFull image base) n ps)) (4 * numberOf x ps + 3) 0
+      → n + first lay ps x ≡ getD (tableNumbers (rowsFrom lay n ps)) (4 * numberOf x ps + 3) 0
   unfolding first numberOf rowsFrom tableNumbers
   first-there n [] h = absurd (omega arith)
-  first-there n (y ∷ ys) h = go (first-there (past (group image base y) n) ys) (samePlace y x) h
+  first-there n (y ∷ ys) h = go (first-there (past (lay y ys) n) ys) (samePlace y x) h
     where
       go : (numberOf x ys < length ys
-          → past (group image base y) n + first (inFull image base) ys x ≡ getD (tableNumbers (rowsFrom (inFull image base) (past (group image base y) n) ys)) (4 * numberOf x ys + 3) 0)
+          → past (lay y ys) n + first lay ys x ≡ getD (tableNumbers (rowsFrom lay (past (lay y ys) n) ys)) (4 * numberOf x ys + 3) 0)
           → (b : Bool) → pick b 0 (suc (numberOf x ys)) < suc (length ys)
-          → n + pick b 0 (past (group image base y) (first (inFull image base) ys x))
-          ≡ getD (placeAt y ∷ nextOf y ∷ kindOf y ∷ n ∷ tableNumbers (rowsFrom (inFull image base) (past (group image base y) n) ys)) (4 * pick b 0 (suc (numberOf x ys)) + 3) 0
+          → n + pick b 0 (past (lay y ys) (first lay ys x))
+          ≡ getD (placeAt y ∷ nextOf y ∷ kindOf y ∷ n ∷ tableNumbers (rowsFrom lay (past (lay y ys) n) ys)) (4 * pick b 0 (suc (numberOf x ys)) + 3) 0
       go r true k = omega arith
       go r false k =
           let e : 4 * suc (numberOf x ys) + 3 ≡ suc (suc (suc (suc (4 * numberOf x ys + 3)))) = omega arith in
-          rw e (sym (past-add (group image base y) n (first (inFull image base) ys x)) ∙ r (omega arith))
+          rw e (sym (past-add (lay y ys) n (first lay ys x)) ∙ r (omega arith))
 
-  first-absent : (ps : List Place) → length ps ≤ numberOf x ps → first (inFull image base) ps x ≡ needed image base ps
+  first-absent : (ps : List Place) → length ps ≤ numberOf x ps → first lay ps x ≡ needed lay ps
   unfolding first numberOf needed
   first-absent [] h = refl
   first-absent (y ∷ ys) h = go (first-absent ys) (samePlace y x) h
     where
-      go : (length ys ≤ numberOf x ys → first (inFull image base) ys x ≡ needed image base ys) → (b : Bool) → suc (length ys) ≤ pick b 0 (suc (numberOf x ys))
-          → pick b 0 (past (group image base y) (first (inFull image base) ys x)) ≡ past (group image base y) (needed image base ys)
+      go : (length ys ≤ numberOf x ys → first lay ys x ≡ needed lay ys) → (b : Bool) → suc (length ys) ≤ pick b 0 (suc (numberOf x ys))
+          → pick b 0 (past (lay y ys) (first lay ys x)) ≡ past (lay y ys) (needed lay ys)
       go r true k = absurd (omega arith)
       go r false k = rw (r (omega arith))
 
@@ -163,17 +163,17 @@ number-of : (l : List ℕ) (n i : ℕ) → i < n → getD (numbersOf l n) i 0 �
 unfolding numbersOf
 number-of l n i h = get-up (λ i. numberAt l (4 * i)) n i 0 h
 
-pub first-laid : (image : List ℕ) (base : ℕ) (ps : List Place) (count : ℕ) (l : List ℕ) (r : ℕ) → Laid image base ps count l r → (x : Place)
-    → firstIn l count r x ≡ first (inFull image base) ps x
+pub first-laid : (lay : Grouping) (ps : List Place) (count : ℕ) (l : List ℕ) (r : ℕ) → Laid lay ps count l r → (x : Place)
+    → firstIn l count r x ≡ first lay ps x
 unfolding firstIn
-first-laid image base ps count l r d x = rw (d .kept) (go (ltb (numberOf x ps) count) refl)
+first-laid lay ps count l r d x = rw (d .kept) (go (ltb (numberOf x ps) count) refl)
   where
     size : length ps ≡ count
     size = ap length (sym (d .kept)) ∙ length-places l count
 
-    go : (b : Bool) → ltb (numberOf x ps) count ≡ b → pick b (numberAt l (16 * numberOf x ps + 12)) r ≡ first (inFull image base) ps x
+    go : (b : Bool) → ltb (numberOf x ps) count ≡ b → pick b (numberAt l (16 * numberOf x ps + 12)) r ≡ first lay ps x
     go true e =
         let h : numberOf x ps < count = ltb-true (numberOf x ps) count e in
         let k : 16 * numberOf x ps + 12 ≡ 4 * (4 * numberOf x ps + 3) = omega arith in
-        rw k (sym (number-of l (4 * count) (4 * numberOf x ps + 3) (omega arith)) ∙ rw (d .numbers) (sym (first-there image base x 0 ps (omega (arith, size))) ∙ zero-add (first (inFull image base) ps x)))
-    go false e = d .all ∙ sym (first-absent image base x ps (omega (arith, size, ltb-false (numberOf x ps) count e)))
+        rw k (sym (number-of l (4 * count) (4 * numberOf x ps + 3) (omega arith)) ∙ rw (d .numbers) (sym (first-there lay x 0 ps (omega (arith, size))) ∙ zero-add (first lay ps x)))
+    go false e = d .all ∙ sym (first-absent lay x ps (omega (arith, size, ltb-false (numberOf x ps) count e)))

@@ -11,7 +11,7 @@ use native.Mathlib.Omega.{arith}
 use mathlib.Core.List.{List, [], _∷_, _++_, append-nil, append-assoc}
 use mathlib.Core.Path.{_≡_, refl, sym, ap, _∙_, fun-ext}
 use Prim.Native.Nat.{ℕ, suc, _+_, _*_, _^_, _≤_, _<_}
-use Rattle.model.specs.Records.{inFull, Rec, doWord, link, hold, goIf, goTo, goHeld, stop, unknown, Group, one, two, group, past, numbered, put, recordsFrom, recordNumbers, recordsNumbers}
+use Rattle.model.specs.Records.{Rec, doWord, link, hold, goIf, goTo, goHeld, stop, unknown, Group, one, two, past, Grouping, numbered, put, recordsFrom, recordNumbers, recordsNumbers}
 use Rattle.places.specs.Table.{placeIn, placesIn}
 
 -- three numbers put in a row
@@ -97,25 +97,25 @@ pub room-as : (at : ℕ) {g h : Group Place} {all : ℕ} → g ≡ h → 12 * pa
 room-as at e k = rw e at k
 
 -- a turn over the places, and its end
-module _ (image : List ℕ) (base : ℕ) (places : List ℕ) (count i at : ℕ) (f : Place → ℕ) where
+module _ (lay : Grouping) (places : List ℕ) (count i at : ℕ) (f : Place → ℕ) where
   pub put-turn : {all : ℕ} {R : List ℕ} (r r′ : List ℕ) (at′ : ℕ) → i < count
-      → at + needed image base (drop i (placesIn places count)) ≡ all
-      → numbersOf r (3 * at) ++ recordsNumbers (recordsFrom (inFull image base) f (drop i (placesIn places count))) ≡ R
-      → Puts f (group image base (placeIn places i)) at r r′ at′
-      → (at′ + needed image base (drop (i + 1) (placesIn places count)) ≡ all)
-      × (numbersOf r′ (3 * at′) ++ recordsNumbers (recordsFrom (inFull image base) f (drop (i + 1) (placesIn places count))) ≡ R)
+      → at + needed lay (drop i (placesIn places count)) ≡ all
+      → numbersOf r (3 * at) ++ recordsNumbers (recordsFrom lay f (drop i (placesIn places count))) ≡ R
+      → Puts f (lay (placeIn places i) (drop (i + 1) (placesIn places count))) at r r′ at′
+      → (at′ + needed lay (drop (i + 1) (placesIn places count)) ≡ all)
+      × (numbersOf r′ (3 * at′) ++ recordsNumbers (recordsFrom lay f (drop (i + 1) (placesIn places count))) ≡ R)
   unfolding recordsFrom
   put-turn {all} {R} r r′ at′ h ea er y =
-      let g = group image base (placeIn places i) in
+      let g = lay (placeIn places i) (drop (i + 1) (placesIn places count)) in
       let c = next-place places count i refl h in
-      let t : recordsNumbers (recordsFrom (inFull image base) f (drop i (placesIn places count)))
-      ≡ recordsNumbers (put f g []) ++ recordsNumbers (recordsFrom (inFull image base) f (drop (i + 1) (placesIn places count))) =
-      rw c (put-append f g (recordsFrom (inFull image base) f (drop (i + 1) (placesIn places count)))) in
-      rw (y .reaches) (needed-turn image base c refl at all ea, rw (y .numbers) (rw append-assoc (rw t at er)))
+      let t : recordsNumbers (recordsFrom lay f (drop i (placesIn places count)))
+      ≡ recordsNumbers (put f g []) ++ recordsNumbers (recordsFrom lay f (drop (i + 1) (placesIn places count))) =
+      rw c (put-append f g (recordsFrom lay f (drop (i + 1) (placesIn places count)))) in
+      rw (y .reaches) (needed-turn lay c refl at all ea, rw (y .numbers) (rw append-assoc (rw t at er)))
 
-  pub put-end : {all : ℕ} (r : List ℕ) → count ≤ i → at + needed image base (drop i (placesIn places count)) ≡ all
-      → numbersOf r (3 * at) ++ recordsNumbers (recordsFrom (inFull image base) f (drop i (placesIn places count))) ≡ recordsNumbers (recordsFrom (inFull image base) f (placesIn places count))
-      → numbersOf r (3 * all) ≡ recordsNumbers (recordsFrom (inFull image base) f (placesIn places count))
+  pub put-end : {all : ℕ} (r : List ℕ) → count ≤ i → at + needed lay (drop i (placesIn places count)) ≡ all
+      → numbersOf r (3 * at) ++ recordsNumbers (recordsFrom lay f (drop i (placesIn places count))) ≡ recordsNumbers (recordsFrom lay f (placesIn places count))
+      → numbersOf r (3 * all) ≡ recordsNumbers (recordsFrom lay f (placesIn places count))
   unfolding recordsFrom recordsNumbers needed
   put-end {all} r k ea er =
       let d : drop i (placesIn places count) ≡ [] = no-place places count i k in
@@ -128,11 +128,11 @@ unfolding put past
 put-length f (one r) rest = refl
 put-length f (two r s) rest = refl
 
-module _ (image : List ℕ) (base : ℕ) where
-  pub records-same : {f h : Place → ℕ} (ps : List Place) → ((x : Place) → f x ≡ h x) → recordsFrom (inFull image base) f ps ≡ recordsFrom (inFull image base) h ps
-  records-same ps e = ap (λ (k : Place → ℕ). recordsFrom (inFull image base) k ps) (fun-ext e)
+module _ (lay : Grouping) where
+  pub records-same : {f h : Place → ℕ} (ps : List Place) → ((x : Place) → f x ≡ h x) → recordsFrom lay f ps ≡ recordsFrom lay h ps
+  records-same ps e = ap (λ (k : Place → ℕ). recordsFrom lay k ps) (fun-ext e)
 
-  pub records-length : (f : Place → ℕ) (ps : List Place) → length (recordsFrom (inFull image base) f ps) ≡ needed image base ps
+  pub records-length : (f : Place → ℕ) (ps : List Place) → length (recordsFrom lay f ps) ≡ needed lay ps
   unfolding recordsFrom needed
   records-length f [] = refl
-  records-length f (y ∷ ys) = put-length f (group image base y) (recordsFrom (inFull image base) f ys) ∙ rw (records-length f ys)
+  records-length f (y ∷ ys) = put-length f (lay y ys) (recordsFrom lay f ys) ∙ rw (records-length f ys)

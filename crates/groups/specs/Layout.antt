@@ -6,7 +6,7 @@ use lib.Dec.{ltb}
 use Rattle.numbers.specs.Choice.{pick}
 use Rattle.numbers.specs.Number.{numberAt, numbersOf}
 use Rattle.model.specs.declared.Place.{Place}
-use Rattle.model.specs.Records.{inFull, Rec, doWord, link, hold, goIf, goTo, goHeld, stop, Group, one, two, group, past, put, rowsFrom, tableNumbers, recordsNumbers}
+use Rattle.model.specs.Records.{Rec, doWord, link, hold, goIf, goTo, goHeld, stop, Group, one, two, past, put, Grouping, rowsFrom, tableNumbers, recordsNumbers}
 use Rattle.places.specs.Table.{placesIn, numberOf}
 use Rattle.places.specs.Index.{Tabled}
 use Rattle.groups.specs.declared.records.Extent.{Extent}
@@ -33,10 +33,10 @@ unfoldable pub size : Group Place → ℕ
 size (one r) = 1
 size (two r s) = 2
 
--- the records that the groups of a list of places have
-unfoldable pub needed : List ℕ → ℕ → List Place → ℕ
-needed image base [] = 0
-needed image base (y ∷ ys) = past (group image base y) (needed image base ys)
+-- the records that the groups of a list of places have, by a layout
+unfoldable pub needed : Grouping → List Place → ℕ
+needed lay [] = 0
+needed lay (y ∷ ys) = past (lay y ys) (needed lay ys)
 
 -- the first record of a place, as the first rows of a table have it, and `all` where it is not among them
 unfoldable pub firstIn : List ℕ → ℕ → ℕ → Place → ℕ
@@ -44,10 +44,10 @@ firstIn bytes count all x =
     pick (ltb (numberOf x (placesIn bytes count)) count) (numberAt bytes (16 * numberOf x (placesIn bytes count) + 12)) all
 
 -- a table with its first records set: the places as they were, all numbers, and the records in all
-pub record Laid (image : List ℕ) (base : ℕ) (ps : List Place) (count : ℕ) (bytes : List ℕ) (r : ℕ) : Type 0 where
-  pub all : r ≡ needed image base ps
+pub record Laid (lay : Grouping) (ps : List Place) (count : ℕ) (bytes : List ℕ) (r : ℕ) : Type 0 where
+  pub all : r ≡ needed lay ps
   pub kept : placesIn bytes count ≡ ps
-  pub numbers : numbersOf bytes (4 * count) ≡ tableNumbers (rowsFrom (inFull image base) 0 ps)
+  pub numbers : numbersOf bytes (4 * count) ≡ tableNumbers (rowsFrom lay 0 ps)
 
 -- a group put from record `at` on: how far it reaches, and the numbers up to there
 pub record Puts (f : Place → ℕ) (g : Group Place) (at : ℕ) (before after : List ℕ) (r : ℕ) : Type 0 where

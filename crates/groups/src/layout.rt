@@ -6,7 +6,7 @@ ghost use lib.ListN.{length};
 ghost use Rattle.numbers.specs.Choice.{pick};
 ghost use Rattle.model.specs.declared.Place.the-variants.{Pair, Held};
 ghost use Rattle.model.specs.Places.{whichOf};
-ghost use Rattle.model.specs.Records.{biccGroup, groupOf, heldGroupOf, group};
+ghost use Rattle.model.specs.Records.{biccGroup, groupOf, heldGroupOf, group, inFull};
 ghost use Rattle.places.specs.Control.{transferred};
 ghost use Rattle.places.specs.Table.{placesIn, ShowsIn, SameRow};
 ghost use Rattle.groups.specs.Layout.{size, Laid};
@@ -63,7 +63,7 @@ fn group_size(image: &[u8], base: u32, p: SourcePc, held: bool) -> usize
 // Sets the first record of each place, in place order, and answers the records in all.
 pub fn lay_out(image: &[u8], base: u32, places: &mut [u8], count: usize) -> usize
     requires { ⌜ (16 * count ≤ length (now places)) × (count ≤ 8192) × ((i : ℕ) → i < count → ShowsIn (now places) i) ⌝ }
-    ensures { λ r. ⌜ Laid (now (image .entry)) base (placesIn (now (places .entry)) count) count (now (places .exit)) r × ((i : ℕ) → i < count → SameRow (now (places .exit)) (now (places .entry)) i) ⌝ }
+    ensures { λ r. ⌜ Laid (inFull (now (image .entry)) base) (placesIn (now (places .entry)) count) count (now (places .exit)) r × ((i : ℕ) → i < count → SameRow (now (places .exit)) (now (places .entry)) i) ⌝ }
 {
     let mut n: usize = 0;
     let mut i: usize = 0;

@@ -270,7 +270,7 @@ pub fn put_groups(
     total: usize,
     records: &mut [u8],
 )
-    requires { ⌜ Tabled (now places) count (now heads) (now links) × (total ≡ needed (now image) base (placesIn (now places) count)) × (12 * total ≤ length (now records)) ⌝ }
+    requires { ⌜ Tabled (now places) count (now heads) (now links) × (total ≡ needed (inFull (now image) base) (placesIn (now places) count)) × (12 * total ≤ length (now records)) ⌝ }
     ensures { λ _. ⌜ numbersOf (now (records .exit)) (3 * total) ≡ recordsNumbers (recordsFrom (inFull (now (image .entry)) base) (firstIn (now (places .entry)) count total) (placesIn (now (places .entry)) count)) ⌝ }
 {
     let e = Extent { count, total };

@@ -55,9 +55,9 @@ module _ (pl rl : ℕ) (t s : List ℕ) (lt : length t ≡ pl) (ls : length s �
   refused-as a p q =
       rw (nothing-filled t (4 * placesCounted a) (length t) (omega arith), nothing-filled s (3 * recordsCounted a) (length s) (omega arith), lt, ls)
 
-  module _ (image : List ℕ) (base : ℕ) (ps : List Place) (count r : ℕ) (d : Laid image base ps count t r) where
+  module _ (image : List ℕ) (base : ℕ) (ps : List Place) (count r : ℕ) (d : Laid (inFull image base) ps count t r) where
     all-of : (f : Place → ℕ) → length (recordsFrom (inFull image base) f ps) ≡ r
-    all-of f = records-length image base f ps ∙ sym (d .all)
+    all-of f = records-length (inFull image base) f ps ∙ sym (d .all)
 
     pub finish-short : rl / 12 < r → cleared (RecordsShort r) t s ≡ fromWalk image base pl rl (table ps)
     unfolding fromWalk recordsOf placesCounted recordsCounted
@@ -69,7 +69,7 @@ module _ (pl rl : ℕ) (t s : List ℕ) (lt : length t ≡ pl) (ls : length s �
     finish-whole h e =
         let n : length ps ≡ count = ap length (sym (d .kept)) ∙ length-places t count in
         let f : recordsFrom (inFull image base) (firstIn t count r) (placesIn t count) ≡ recordsFrom (inFull image base) (first (inFull image base) ps) ps =
-        rw (d .kept) (records-same image base ps (first-laid image base ps count t r d)) in
+        rw (d .kept) (records-same (inFull image base) ps (first-laid (inFull image base) ps count t r d)) in
         rw (all-of (first (inFull image base) ps), le-leb r (rl / 12) h, n, d .numbers, e, f, lt, ls)
 
   -- the end of the walk, by what was found

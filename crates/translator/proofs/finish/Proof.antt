@@ -1,3 +1,4 @@
+use Rattle.model.specs.Records.{inFull}
 use Rattle.places.proofs.Rows.{length-places}
 use Rattle.places.specs.Table.{placesIn}
 use Rattle.places.proofs.Chains.{index-same}
@@ -15,7 +16,7 @@ lay-out-requires c κs = let s = c .before .before .before .before in (s .pre .f
 cast-t14 : tie.Need-cast-t14
 cast-t14 c = let s = c .before .before .before .before .before .before .before .before in
     let ps = placesIn (s .args .places .now) (s .args .count) in
-    omega (arith, c .before .before .before .lay-out .ensures .0 .all, needed-le (s .args .image .now) (s .args .base) ps, length-places (s .args .places .now) (s .args .count), s .pre .few)
+    omega (arith, c .before .before .before .lay-out .ensures .0 .all, needed-le (inFull (s .args .image .now) (s .args .base)) ps, length-places (s .args .places .now) (s .args .count), s .pre .few)
 
 same-length : tie.Need-same-length
 same-length c = search needs
@@ -35,7 +36,7 @@ cast-t21 : tie.Need-cast-t21
 cast-t21 c = let b = c .before .before .before .before .before .before .before .before in
     let s = b .before .before .before .before .before in
     let ps = placesIn (s .args .places .now) (s .args .count) in
-    omega (arith, b .lay-out .ensures .0 .all, needed-le (s .args .image .now) (s .args .base) ps, length-places (s .args .places .now) (s .args .count), s .pre .few)
+    omega (arith, b .lay-out .ensures .0 .all, needed-le (inFull (s .args .image .now) (s .args .base)) ps, length-places (s .args .places .now) (s .args .count), s .pre .few)
 
 same-length-2 : tie.Need-same-length-2
 same-length-2 c = search needs

@@ -1,5 +1,6 @@
 use Rattle.numbers.proofs.Number.{length-put}
 use Rattle.numbers.specs.Number.{upTo, numbersOf}
+use Rattle.model.specs.Records.{inFull}
 use Rattle.places.specs.Table.{SameRow, placesIn}
 use Rattle.groups.proofs.Grouping.{row-size}
 use Rattle.groups.proofs.Laying.{Laying, lay-turn, lay-end, row-kept, row-trans, size-bound}
@@ -15,7 +16,7 @@ use Rattle.groups.proofs.layout.lay_out.Tie as tie
 abbrev Inv-loop : tie.InvT-loop
 Inv-loop image base places₀ count n₀ i₀ places n i =
     (i ≤ count) × (length places ≡ length places₀) × ((j : ℕ) → SameRow places places₀ j) × (n ≤ 2 * i)
-    × Laying image base places (placesIn places₀ count) i n
+    × Laying (inFull image base) places (placesIn places₀ count) i n
 
 abbrev μ-loop : tie.MeasureT-loop
 μ-loop image base places₀ count n₀ i₀ places n i = count - i
@@ -57,7 +58,7 @@ loop-less c = search needs
 loop-again : tie.Need-loop-again Inv-loop μ-loop
 loop-again c = let b = c .before .before .before .before in
     let d = b .before .before .before .before .before in
-    let turn = lay-turn _ _ _ _ _ _ _ (d .before .loop .inv .2) (d .loop-test .taken) (row-size _ _ _ _ (b .before .before .before .address .ensures) (b .before .is-held .ensures) (b .group-size .ensures)) (d .before .before .before .before .pre .2 _ (d .loop-test .taken)) (omega arith) (omega arith) (d .before .loop .inv .4) in
+    let turn = lay-turn _ _ _ _ _ _ (d .before .loop .inv .2) (d .loop-test .taken) (row-size _ _ _ _ (b .before .before .before .address .ensures) (b .before .is-held .ensures) (b .group-size .ensures)) (d .before .before .before .before .pre .2 _ (d .loop-test .taken)) (omega arith) (omega arith) (d .before .loop .inv .4) in
     let k = size-bound _ (b .group-size .ensures 0) in
     rw (c .before .before .write-number .ensures)
     (omega arith, simp length-put (d .before .loop .inv .1), λ j. row-trans _ _ _ j (row-kept _ _ _ j) (d .before .loop .inv .2 j), omega (arith, k), turn)
@@ -66,7 +67,7 @@ same-length : tie.Need-same-length Inv-loop μ-loop
 same-length c = search needs
 
 returns : tie.Need-returns Inv-loop μ-loop
-returns c = (lay-end _ _ _ _ _ _ _ (c .before .loop .inv .2) (c .before .loop .inv .0) (c .loop-test .left) (c .before .loop .inv .4), λ i h. c .before .loop .inv .2 i)
+returns c = (lay-end _ _ _ _ _ _ (c .before .loop .inv .2) (c .before .loop .inv .0) (c .loop-test .left) (c .before .loop .inv .4), λ i h. c .before .loop .inv .2 i)
 
 pub lay-out-spec : {M : Type 1} → statement M
 lay-out-spec =

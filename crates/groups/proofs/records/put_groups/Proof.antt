@@ -17,7 +17,7 @@ use Rattle.groups.proofs.records.put_groups.Tie as tie
 
 abbrev Inv-loop : tie.InvT-loop
 Inv-loop image base places heads links count total records₀ e at₀ i₀ records at i =
-    (i ≤ count) × (length records ≡ length records₀) × (at + needed image base (drop i (placesIn places count)) ≡ total)
+    (i ≤ count) × (length records ≡ length records₀) × (at + needed (inFull image base) (drop i (placesIn places count)) ≡ total)
     × (numbersOf records (3 * at) ++ recordsNumbers (recordsFrom (inFull image base) (firstIn places count total) (drop i (placesIn places count)))
     ≡ recordsNumbers (recordsFrom (inFull image base) (firstIn places count total) (placesIn places count)))
 
@@ -30,8 +30,8 @@ loop-holds c = (omega arith, refl, zero-add _ ∙ sym (c .before .before .before
 
 put-group-requires : tie.Need-put-group-requires Inv-loop μ-loop
 put-group-requires c κs = let s = c .before .before .before .before .before .before in
-    let t = needed-turn _ _ (next-place _ _ _ refl (c .before .loop-test .taken)) refl _ _ (c .before .before .loop .inv .2) in
-    let n = needed-le (s .args .image .now) (s .args .base) (placesIn (s .args .places .now) (s .args .count)) in
+    let t = needed-turn _ (next-place _ _ _ refl (c .before .loop-test .taken)) refl _ _ (c .before .before .loop .inv .2) in
+    let n = needed-le (inFull (s .args .image .now) (s .args .base)) (placesIn (s .args .places .now) (s .args .count)) in
     let m = length-places (s .args .places .now) (s .args .count) in
     (record { places = s .pre .0; records = omega (arith, s .pre .1, s .pre .0 .few) }, c .before .loop-test .taken, omega (arith, t, s .pre .2))
 
@@ -42,14 +42,14 @@ loop-less : tie.Need-loop-less Inv-loop μ-loop
 loop-less c = search needs
 
 loop-again : tie.Need-loop-again Inv-loop μ-loop
-loop-again c = let turn = put-turn _ _ _ _ _ _ _ _ _ _ (c .before .before .before .before .loop-test .taken) (c .before .before .before .before .before .loop .inv .2) (c .before .before .before .before .before .loop .inv .3) (c .before .before .put-group .ensures) in
+loop-again c = let turn = put-turn _ _ _ _ _ _ _ _ _ (c .before .before .before .before .loop-test .taken) (c .before .before .before .before .before .loop .inv .2) (c .before .before .before .before .before .loop .inv .3) (c .before .before .put-group .ensures) in
     (omega arith, omega arith, turn .0, turn .1)
 
 same-length : tie.Need-same-length Inv-loop μ-loop
 same-length c = search needs
 
 returns : tie.Need-returns Inv-loop μ-loop
-returns c = put-end _ _ _ _ _ _ _ _ (c .loop-test .left) (c .before .loop .inv .2) (c .before .loop .inv .3)
+returns c = put-end _ _ _ _ _ _ _ (c .loop-test .left) (c .before .loop .inv .2) (c .before .loop .inv .3)
 
 pub put-groups-spec : {M : Type 1} → statement M
 put-groups-spec =
