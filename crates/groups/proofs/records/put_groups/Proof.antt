@@ -29,7 +29,7 @@ unfolding numbersOf upTo
 loop-holds c = (omega arith, refl, zero-add _ ∙ sym (c .before .before .before .pre .1), refl)
 
 put-group-requires : tie.Need-put-group-requires Inv-loop μ-loop
-put-group-requires c κs = let s = c .before .before .before .before .before .before in
+put-group-requires c κs = let s : tie.Start Inv-loop μ-loop = search in
     let t = needed-turn _ (next-place _ _ _ refl (c .before .loop-test .taken)) refl _ _ (c .before .before .loop .inv .2) in
     let n = needed-le (inFull (s .args .image .now) (s .args .base)) (placesIn (s .args .places .now) (s .args .count)) in
     let m = length-places (s .args .places .now) (s .args .count) in
@@ -42,7 +42,10 @@ loop-less : tie.Need-loop-less Inv-loop μ-loop
 loop-less c = search needs
 
 loop-again : tie.Need-loop-again Inv-loop μ-loop
-loop-again c = let turn = put-turn _ _ _ _ _ _ _ _ _ (c .before .before .before .before .loop-test .taken) (c .before .before .before .before .before .loop .inv .2) (c .before .before .before .before .before .loop .inv .3) (c .before .before .put-group .ensures) in
+loop-again c = let at-put-group : tie.After-put-group Inv-loop μ-loop = search in
+    let in-loop : tie.In-loop Inv-loop μ-loop = search in
+    let at-loop : tie.At-loop Inv-loop μ-loop = search in
+    let turn = put-turn _ _ _ _ _ _ _ _ _ (in-loop .loop-test .taken) (at-loop .loop .inv .2) (at-loop .loop .inv .3) (at-put-group .put-group .ensures) in
     (omega arith, omega arith, turn .0, turn .1)
 
 same-length : tie.Need-same-length Inv-loop μ-loop
