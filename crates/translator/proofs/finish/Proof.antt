@@ -19,9 +19,6 @@ cast-t14 c = let at-lay-out : tie.After-lay-out = search in
     let ps = placesIn (s .args .places .now) (s .args .count) in
     omega (arith, at-lay-out .lay-out .ensures .0 .all, needed-le (inFull (s .args .image .now) (s .args .base)) ps, length-places (s .args .places .now) (s .args .count), s .pre .few)
 
-same-length : tie.Need-same-length
-same-length c = search needs
-
 returns : tie.Need-returns
 returns c = let at-lay-out : tie.After-lay-out = search in finish-short _ _ _ _ (omega arith) refl _ _ _ _ _ (at-lay-out .lay-out .ensures .0) (c .if1 .taken)
 
@@ -31,20 +28,11 @@ put-groups-requires c κs = let at-lay-out : tie.After-lay-out = search in
     let d = at-lay-out .lay-out .ensures in
     (record { fits = omega arith; few = s .pre .few; index = index-same _ _ _ _ _ (d .1) (s .pre .index) }, rw (d .0 .kept) (d .0 .all), omega arith)
 
-cast-t20 : tie.Need-cast-t20
-cast-t20 c = search needs
-
 cast-t21 : tie.Need-cast-t21
 cast-t21 c = let at-lay-out : tie.After-lay-out = search in
     let s : tie.Start = search in
     let ps = placesIn (s .args .places .now) (s .args .count) in
     omega (arith, at-lay-out .lay-out .ensures .0 .all, needed-le (inFull (s .args .image .now) (s .args .base)) ps, length-places (s .args .places .now) (s .args .count), s .pre .few)
-
-same-length-2 : tie.Need-same-length-2
-same-length-2 c = search needs
-
-same-length-3 : tie.Need-same-length-3
-same-length-3 c = search needs
 
 returns-2 : tie.Need-returns-2
 returns-2 c = let at-put-groups : tie.After-put-groups = search in
@@ -56,13 +44,5 @@ pub finish-spec : {M : Type 1} → statement M
 finish-spec =
     tie.close
     (tie.spec
-    lay-out-requires
-    cast-t14
-    same-length
-    returns
-    put-groups-requires
-    cast-t20
-    cast-t21
-    same-length-2
-    same-length-3
-    returns-2)
+    lay-out-requires cast-t14 (λ c. search needs) returns put-groups-requires (λ c. search needs) cast-t21
+    (λ c. search needs) (λ c. search needs) returns-2)

@@ -4,21 +4,6 @@ use borrow.Author.Needs.{needs}
 use Rattle.groups.proofs.layout.group_size.Statement.{statement}
 use Rattle.groups.proofs.layout.group_size.Tie as tie
 
-fetch-requires : tie.Need-fetch-requires
-fetch-requires c κs = search needs
-
-enum-known-f : tie.Need-enum-known-f
-enum-known-f c = search needs
-
-read-flow-requires : tie.Need-read-flow-requires
-read-flow-requires c κs = search needs
-
-word-size-requires : tie.Need-word-size-requires
-word-size-requires c κs = search needs
-
-enum-told : tie.Need-enum-told
-enum-told c = search needs
-
 returns : tie.Need-returns
 returns c = let b = c .before .before .before in
     let s = b .before .before .before .before in
@@ -32,10 +17,5 @@ pub group-size-spec : {M : Type 1} → statement M
 group-size-spec =
     tie.close
     (tie.spec
-    fetch-requires
-    enum-known-f
-    read-flow-requires
-    word-size-requires
-    enum-told
-    returns
-    returns-2)
+    (λ c κs. search needs) (λ c. search needs) (λ c κs. search needs) (λ c κs. search needs) (λ c. search needs)
+    returns returns-2)

@@ -31,9 +31,6 @@ address-requires c κs = omega arith
 is-held-requires : tie.Need-is-held-requires Inv-loop μ-loop
 is-held-requires c κs = omega arith
 
-group-size-requires : tie.Need-group-size-requires Inv-loop μ-loop
-group-size-requires c κs = search needs
-
 mul-write-number : tie.Need-mul-write-number Inv-loop μ-loop
 mul-write-number c = omega arith
 
@@ -49,12 +46,6 @@ write-number-requires c κs = omega arith
 add-n : tie.Need-add-n Inv-loop μ-loop
 add-n c = omega (arith, size-bound _ (c .before .before .before .before .group-size .ensures 0))
 
-add-i : tie.Need-add-i Inv-loop μ-loop
-add-i c = search needs
-
-loop-less : tie.Need-loop-less Inv-loop μ-loop
-loop-less c = search needs
-
 loop-again : tie.Need-loop-again Inv-loop μ-loop
 loop-again c = let b = c .before .before .before .before in
     let d = b .before .before .before .before .before in
@@ -63,9 +54,6 @@ loop-again c = let b = c .before .before .before .before in
     rw (c .before .before .write-number .ensures)
     (omega arith, simp length-put (d .before .loop .inv .1), λ j. row-trans _ _ _ j (row-kept _ _ _ j) (d .before .loop .inv .2 j), omega (arith, k), turn)
 
-same-length : tie.Need-same-length Inv-loop μ-loop
-same-length c = search needs
-
 returns : tie.Need-returns Inv-loop μ-loop
 returns c = (lay-end _ _ _ _ _ _ (c .before .loop .inv .2) (c .before .loop .inv .0) (c .loop-test .left) (c .before .loop .inv .4), λ i h. c .before .loop .inv .2 i)
 
@@ -73,19 +61,6 @@ pub lay-out-spec : {M : Type 1} → statement M
 lay-out-spec =
     tie.close
     (tie.spec
-    Inv-loop
-    μ-loop
-    loop-holds
-    address-requires
-    is-held-requires
-    group-size-requires
-    mul-write-number
-    add-write-number
-    cast-write-number
-    write-number-requires
-    add-n
-    add-i
-    loop-less
-    loop-again
-    same-length
-    returns)
+    Inv-loop μ-loop loop-holds address-requires is-held-requires (λ c κs. search needs) mul-write-number
+    add-write-number cast-write-number write-number-requires add-n (λ c. search needs) (λ c. search needs) loop-again
+    (λ c. search needs) returns)

@@ -8,30 +8,9 @@ use borrow.Author.Needs.{needs}
 use Rattle.groups.proofs.layout.word_size.Statement.{statement}
 use Rattle.groups.proofs.layout.word_size.Tie as tie
 
-enum-told : tie.Need-enum-told
-enum-told c = search needs
-
-enum-told-2 : tie.Need-enum-told-2
-enum-told-2 c = search needs
-
-enum-told-3 : tie.Need-enum-told-3
-enum-told-3 c = search needs
-
-enum-known-f : tie.Need-enum-known-f
-enum-known-f c = search needs
-
-enum-known-f-2 : tie.Need-enum-known-f-2
-enum-known-f-2 c = search needs
-
 returns : tie.Need-returns
 unfolding size heldGroupOf groupOf transferred
 returns c = λ word p n. rw (c .before .before .f2 .given .1, c .if1 .taken)
-
-branch-size-requires : tie.Need-branch-size-requires
-branch-size-requires c κs = search needs
-
-enum-known-f-3 : tie.Need-enum-known-f-3
-enum-known-f-3 c = search needs
 
 returns-2 : tie.Need-returns-2
 unfolding size heldGroupOf groupOf transferred
@@ -61,17 +40,5 @@ pub word-size-spec : {M : Type 1} → statement M
 word-size-spec =
     tie.close
     (tie.spec
-    enum-told
-    enum-told-2
-    enum-told-3
-    enum-known-f
-    enum-known-f-2
-    returns
-    branch-size-requires
-    enum-known-f-3
-    returns-2
-    returns-3
-    returns-4
-    returns-5
-    returns-6
-    returns-7)
+    (λ c. search needs) (λ c. search needs) (λ c. search needs) (λ c. search needs) (λ c. search needs) returns
+    (λ c κs. search needs) (λ c. search needs) returns-2 returns-3 returns-4 returns-5 returns-6 returns-7)

@@ -4,9 +4,6 @@ use borrow.Author.Needs.{needs}
 use Rattle.groups.proofs.records.first_of_pair.Statement.{statement}
 use Rattle.groups.proofs.records.first_of_pair.Tie as tie
 
-pair-kind-requires : tie.Need-pair-kind-requires
-pair-kind-requires c κs = search needs
-
 first-record-requires : tie.Need-first-record-requires
 first-record-requires c κs = (c .before .before .pre, shows-pair _ _ (c .pair-kind .ensures))
 
@@ -14,4 +11,4 @@ returns : tie.Need-returns
 returns c = c .first-record .ensures ∙ rw (place-pair (c .before .before .before .args .p .0) (c .before .before .before .args .n .0) (c .before .pair-kind .ensures))
 
 pub first-of-pair-spec : {M : Type 1} → statement M
-first-of-pair-spec = tie.close (tie.spec pair-kind-requires first-record-requires returns)
+first-of-pair-spec = tie.close (tie.spec (λ c κs. search needs) first-record-requires returns)

@@ -6,62 +6,29 @@ use borrow.Author.Needs.{needs}
 use Rattle.groups.proofs.records.put_branch.Statement.{statement}
 use Rattle.groups.proofs.records.put_branch.Tie as tie
 
-untaken-requires : tie.Need-untaken-requires
-untaken-requires c κs = search needs
-
-first-of-plain-requires : tie.Need-first-of-plain-requires
-first-of-plain-requires c κs = search needs
-
 put-one-requires : tie.Need-put-one-requires
 put-one-requires c κs = room-one _ (never-group _ _ _ _ (c .before .before .before .if1 .taken)) (c .before .before .before .before .before .before .pre .1)
-
-same-length : tie.Need-same-length
-same-length c = search needs
 
 returns : tie.Need-returns
 unfolding numbered recorded
 returns c = puts-as (never-group _ _ _ _ (c .before .before .before .before .before .before .if1 .taken)) (puts-one _ _ _ _ _ (c .before .before .put-one .ensures) (rw (c .before .before .before .before .first-of-plain .ensures, c .before .before .before .before .before .untaken .ensures)))
 
-first-of-plain-requires-2 : tie.Need-first-of-plain-requires-2
-first-of-plain-requires-2 c κs = search needs
-
 put-one-requires-2 : tie.Need-put-one-requires-2
 put-one-requires-2 c κs = room-one _ (annulled-group _ _ _ _ (c .before .before .before .if2 .taken) (c .before .before .if3 .taken)) (c .before .before .before .before .before .before .before .pre .1)
-
-same-length-2 : tie.Need-same-length-2
-same-length-2 c = search needs
 
 returns-2 : tie.Need-returns-2
 unfolding numbered recorded
 returns-2 c = puts-as (annulled-group _ _ _ _ (c .before .before .before .before .before .before .if2 .taken) (c .before .before .before .before .before .if3 .taken)) (puts-one _ _ _ _ _ (c .before .before .put-one2 .ensures) (rw (c .before .before .before .before .first-of-plain2 .ensures)))
 
-first-of-pair-requires : tie.Need-first-of-pair-requires
-first-of-pair-requires c κs = search needs
-
 put-one-requires-3 : tie.Need-put-one-requires-3
 put-one-requires-3 c κs = room-one _ (always-group _ _ _ _ (c .before .before .before .if2 .taken) (c .before .before .if3 .left)) (c .before .before .before .before .before .before .before .pre .1)
-
-same-length-3 : tie.Need-same-length-3
-same-length-3 c = search needs
 
 returns-3 : tie.Need-returns-3
 unfolding numbered recorded
 returns-3 c = puts-as (always-group _ _ _ _ (c .before .before .before .before .before .before .if2 .taken) (c .before .before .before .before .before .if3 .left)) (puts-one _ _ _ _ _ (c .before .before .put-one3 .ensures) (rw (c .before .before .before .before .first-of-pair .ensures)))
 
-first-of-pair-requires-2 : tie.Need-first-of-pair-requires-2
-first-of-pair-requires-2 c κs = search needs
-
-untaken-requires-2 : tie.Need-untaken-requires-2
-untaken-requires-2 c κs = search needs
-
-first-of-plain-requires-3 : tie.Need-first-of-plain-requires-3
-first-of-plain-requires-3 c κs = search needs
-
 put-two-requires : tie.Need-put-two-requires
 put-two-requires c κs = room-two _ (depends-group _ _ _ _ (c .before .before .before .before .before .if1 .left) (c .before .before .before .before .if2 .left)) (c .before .before .before .before .before .before .before .before .pre .1)
-
-same-length-4 : tie.Need-same-length-4
-same-length-4 c = search needs
 
 returns-4 : tie.Need-returns-4
 unfolding numbered recorded
@@ -72,22 +39,7 @@ pub put-branch-spec : {M : Type 1} → statement M
 put-branch-spec =
     tie.close
     (tie.spec
-    untaken-requires
-    first-of-plain-requires
-    put-one-requires
-    same-length
-    returns
-    first-of-plain-requires-2
-    put-one-requires-2
-    same-length-2
-    returns-2
-    first-of-pair-requires
-    put-one-requires-3
-    same-length-3
-    returns-3
-    first-of-pair-requires-2
-    untaken-requires-2
-    first-of-plain-requires-3
-    put-two-requires
-    same-length-4
+    (λ c κs. search needs) (λ c κs. search needs) put-one-requires (λ c. search needs) returns (λ c κs. search needs)
+    put-one-requires-2 (λ c. search needs) returns-2 (λ c κs. search needs) put-one-requires-3 (λ c. search needs)
+    returns-3 (λ c κs. search needs) (λ c κs. search needs) (λ c κs. search needs) put-two-requires (λ c. search needs)
     returns-4)

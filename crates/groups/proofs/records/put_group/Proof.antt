@@ -7,57 +7,27 @@ use borrow.Author.Needs.{needs}
 use Rattle.groups.proofs.records.put_group.Statement.{statement}
 use Rattle.groups.proofs.records.put_group.Tie as tie
 
-address-requires : tie.Need-address-requires
-address-requires c κs = search needs
-
-fetch-requires : tie.Need-fetch-requires
-fetch-requires c κs = search needs
-
-enum-known-f : tie.Need-enum-known-f
-enum-known-f c = search needs
-
-read-flow-requires : tie.Need-read-flow-requires
-read-flow-requires c κs = search needs
-
-is-held-requires : tie.Need-is-held-requires
-is-held-requires c κs = search needs
-
 put-held-requires : tie.Need-put-held-requires
 put-held-requires c κs = let b = c .before .before .before .before .before in
     room-as _ (row-held _ _ _ _ (b .before .before .before .address .ensures) (b .before .before .fetch .ensures) (b .f .given .1) (c .before .before .before .read-flow .ensures) (c .before .before .is-held .ensures) (c .before .if1 .taken)) (b .before .before .before .before .before .before .before .pre .2)
-
-same-length : tie.Need-same-length
-same-length c = search needs
 
 returns : tie.Need-returns
 returns c = let b = c .before .before .before .before in
     let d = b .before .before .before .before in
     puts-as (row-held _ _ _ _ (d .before .before .before .address .ensures) (d .before .before .fetch .ensures) (d .f .given .1) (b .before .before .read-flow .ensures) (b .before .is-held .ensures) (b .if1 .taken)) (c .before .before .put-held .ensures _)
 
-next-requires : tie.Need-next-requires
-next-requires c κs = search needs
-
 put-word-requires : tie.Need-put-word-requires
 put-word-requires c κs = let b = c .before .before .before in
     let d = b .before .before .before .before .before in
     (d .before .before .before .before .before .pre .0, room-as _ (row-pair _ _ _ _ (d .before .address .ensures) (d .fetch .ensures) (b .before .before .before .f .given .1) (b .before .read-flow .ensures) (b .is-held .ensures) (c .before .next .ensures) (c .before .before .if1 .left)) (d .before .before .before .before .before .pre .2))
 
-enum-told : tie.Need-enum-told
-enum-told c = search needs
-
 put-one-requires : tie.Need-put-one-requires
 put-one-requires c κs = room-one _ (row-outside _ _ _ _ (c .before .before .before .before .address .ensures) (c .before .before .before .fetch .ensures) (c .before .enum-told .given .1)) (c .before .before .before .before .before .before .before .before .pre .2)
-
-same-length-2 : tie.Need-same-length-2
-same-length-2 c = search needs
 
 returns-2 : tie.Need-returns-2
 returns-2 c = let b = c .before .before .before .before in
     let d = b .before .before .before .before .before in
     puts-as (row-pair _ _ _ _ (d .before .before .before .address .ensures) (d .before .before .fetch .ensures) (d .f .given .1) (b .before .before .before .read-flow .ensures) (b .before .before .is-held .ensures) (b .next .ensures) (b .before .if1 .left)) (c .before .before .put-word .ensures)
-
-same-length-3 : tie.Need-same-length-3
-same-length-3 c = search needs
 
 returns-3 : tie.Need-returns-3
 unfolding numbered recorded
@@ -67,19 +37,6 @@ pub put-group-spec : {M : Type 1} → statement M
 put-group-spec =
     tie.close
     (tie.spec
-    address-requires
-    fetch-requires
-    enum-known-f
-    read-flow-requires
-    is-held-requires
-    put-held-requires
-    same-length
-    returns
-    next-requires
-    put-word-requires
-    enum-told
-    put-one-requires
-    same-length-2
-    returns-2
-    same-length-3
-    returns-3)
+    (λ c κs. search needs) (λ c κs. search needs) (λ c. search needs) (λ c κs. search needs) (λ c κs. search needs)
+    put-held-requires (λ c. search needs) returns (λ c κs. search needs) put-word-requires (λ c. search needs)
+    put-one-requires (λ c. search needs) returns-2 (λ c. search needs) returns-3)

@@ -35,21 +35,12 @@ put-group-requires c κs = let s : tie.Start Inv-loop μ-loop = search in
     let m = length-places (s .args .places .now) (s .args .count) in
     (record { places = s .pre .0; records = omega (arith, s .pre .1, s .pre .0 .few) }, c .before .loop-test .taken, omega (arith, t, s .pre .2))
 
-add-i : tie.Need-add-i Inv-loop μ-loop
-add-i c = search needs
-
-loop-less : tie.Need-loop-less Inv-loop μ-loop
-loop-less c = search needs
-
 loop-again : tie.Need-loop-again Inv-loop μ-loop
 loop-again c = let at-put-group : tie.After-put-group Inv-loop μ-loop = search in
     let in-loop : tie.In-loop Inv-loop μ-loop = search in
     let at-loop : tie.At-loop Inv-loop μ-loop = search in
     let turn = put-turn _ _ _ _ _ _ _ _ _ (in-loop .loop-test .taken) (at-loop .loop .inv .2) (at-loop .loop .inv .3) (at-put-group .put-group .ensures) in
     (omega arith, omega arith, turn .0, turn .1)
-
-same-length : tie.Need-same-length Inv-loop μ-loop
-same-length c = search needs
 
 returns : tie.Need-returns Inv-loop μ-loop
 returns c = put-end _ _ _ _ _ _ _ (c .loop-test .left) (c .before .loop .inv .2) (c .before .loop .inv .3)
@@ -58,12 +49,5 @@ pub put-groups-spec : {M : Type 1} → statement M
 put-groups-spec =
     tie.close
     (tie.spec
-    Inv-loop
-    μ-loop
-    loop-holds
-    put-group-requires
-    add-i
-    loop-less
-    loop-again
-    same-length
-    returns)
+    Inv-loop μ-loop loop-holds put-group-requires (λ c. search needs) (λ c. search needs) loop-again
+    (λ c. search needs) returns)

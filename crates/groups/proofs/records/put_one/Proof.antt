@@ -5,19 +5,10 @@ use borrow.Author.Needs.{needs}
 use Rattle.groups.proofs.records.put_one.Statement.{statement}
 use Rattle.groups.proofs.records.put_one.Tie as tie
 
-put-record-requires : tie.Need-put-record-requires
-put-record-requires c κs = search needs
-
-add-result : tie.Need-add-result
-add-result c = search needs
-
-same-length : tie.Need-same-length
-same-length c = search needs
-
 returns : tie.Need-returns
 returns c = let at = c .before .before .before .before .before .args .at in
     let k : 3 * (at + 1) ≡ 3 * at + 3 = omega arith in
     (refl, rw k (c .before .before .put-record .ensures))
 
 pub put-one-spec : {M : Type 1} → statement M
-put-one-spec = tie.close (tie.spec put-record-requires add-result same-length returns)
+put-one-spec = tie.close (tie.spec (λ c κs. search needs) (λ c. search needs) (λ c. search needs) returns)

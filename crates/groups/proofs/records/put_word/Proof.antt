@@ -12,59 +12,29 @@ use borrow.Author.Needs.{needs}
 use Rattle.groups.proofs.records.put_word.Statement.{statement}
 use Rattle.groups.proofs.records.put_word.Tie as tie
 
-enum-told : tie.Need-enum-told
-enum-told c = search needs
-
 put-one-requires : tie.Need-put-one-requires
 unfolding past groupOf transferred
 put-one-requires c κs = let s = c .before .before .before .before .before in
     let h : 12 * suc (s .args .at) ≤ length (s .args .records .now) = rw (c .before .enum-told .given .1) at (s .pre .1) in omega (arith, h)
-
-enum-told-2 : tie.Need-enum-told-2
-enum-told-2 c = search needs
-
-first-of-plain-requires : tie.Need-first-of-plain-requires
-first-of-plain-requires c κs = search needs
 
 put-two-requires : tie.Need-put-two-requires
 unfolding past groupOf transferred
 put-two-requires c κs = let s = c .before .before .before .before .before .before in
     let h : 12 * suc (suc (s .args .at)) ≤ length (s .args .records .now) = rw (c .before .before .enum-told2 .given .1) at (s .pre .1) in omega (arith, h)
 
-enum-told-3 : tie.Need-enum-told-3
-enum-told-3 c = search needs
-
 put-one-requires-2 : tie.Need-put-one-requires-2
 unfolding past groupOf transferred
 put-one-requires-2 c κs = let s = c .before .before .before .before .before in
     let h : 12 * suc (s .args .at) ≤ length (s .args .records .now) = rw (c .before .enum-told3 .given .1) at (s .pre .1) in omega (arith, h)
-
-enum-known-f : tie.Need-enum-known-f
-enum-known-f c = search needs
-
-target-requires : tie.Need-target-requires
-target-requires c κs = search needs
-
-first-of-pair-requires : tie.Need-first-of-pair-requires
-first-of-pair-requires c κs = search needs
 
 put-two-requires-2 : tie.Need-put-two-requires-2
 unfolding past groupOf transferred
 put-two-requires-2 c κs = let s = c .before .before .before .before .before .before .before .before in
     let h : 12 * suc (suc (s .args .at)) ≤ length (s .args .records .now) = rw (c .before .before .before .before .f .given .1) at (s .pre .1) in omega (arith, h)
 
-enum-known-f-2 : tie.Need-enum-known-f-2
-enum-known-f-2 c = search needs
-
-target-requires-2 : tie.Need-target-requires-2
-target-requires-2 c κs = search needs
-
 put-branch-requires : tie.Need-put-branch-requires
 unfolding groupOf transferred
 put-branch-requires c κs = (c .before .before .before .before .before .before .before .pre .0, rw (c .before .target2 .ensures) (rw (c .before .before .before .f2 .given .1) at (c .before .before .before .before .before .before .before .pre .1)))
-
-enum-known-f-3 : tie.Need-enum-known-f-3
-enum-known-f-3 c = search needs
 
 first-record-requires : tie.Need-first-record-requires
 first-record-requires c κs = (c .before .before .before .before .before .pre .0, shows-held _)
@@ -74,43 +44,25 @@ unfolding past groupOf transferred
 put-two-requires-3 c κs = let s = c .before .before .before .before .before .before .before in
     let h : 12 * suc (suc (s .args .at)) ≤ length (s .args .records .now) = rw (c .before .before .before .f3 .given .1) at (s .pre .1) in omega (arith, h)
 
-same-length : tie.Need-same-length
-same-length c = search needs
-
 returns : tie.Need-returns
 unfolding groupOf transferred numbered recorded
 returns c = rw (c .before .before .before .before .enum-told .given .1) (puts-one _ _ _ _ _ (c .before .before .put-one .ensures) refl)
-
-same-length-2 : tie.Need-same-length-2
-same-length-2 c = search needs
 
 returns-2 : tie.Need-returns-2
 unfolding groupOf transferred numbered recorded
 returns-2 c = rw (c .before .before .before .before .before .enum-told2 .given .1) (puts-two _ _ _ _ _ _ (c .before .before .put-two .ensures) refl (rw (c .before .before .before .before .first-of-plain .ensures)))
 
-same-length-3 : tie.Need-same-length-3
-same-length-3 c = search needs
-
 returns-3 : tie.Need-returns-3
 unfolding groupOf transferred numbered recorded
 returns-3 c = rw (c .before .before .before .before .enum-told3 .given .1) (puts-one _ _ _ _ _ (c .before .before .put-one2 .ensures) refl)
-
-same-length-4 : tie.Need-same-length-4
-same-length-4 c = search needs
 
 returns-4 : tie.Need-returns-4
 unfolding groupOf transferred numbered recorded
 returns-4 c = rw (c .before .before .before .before .before .before .before .f .given .1) (puts-two _ _ _ _ _ _ (c .before .before .put-two2 .ensures) refl (rw (c .before .before .before .before .first-of-pair .ensures, c .before .before .before .before .before .target .ensures)))
 
-same-length-5 : tie.Need-same-length-5
-same-length-5 c = search needs
-
 returns-5 : tie.Need-returns-5
 unfolding groupOf transferred
 returns-5 c = rw (c .before .before .before .before .before .before .f2 .given .1, ← c .before .before .before .before .target2 .ensures) (c .before .before .put-branch .ensures)
-
-same-length-6 : tie.Need-same-length-6
-same-length-6 c = search needs
 
 returns-6 : tie.Need-returns-6
 unfolding groupOf transferred numbered recorded placeOf
@@ -120,32 +72,9 @@ pub put-word-spec : {M : Type 1} → statement M
 put-word-spec =
     tie.close
     (tie.spec
-    enum-told
-    put-one-requires
-    enum-told-2
-    first-of-plain-requires
-    put-two-requires
-    enum-told-3
-    put-one-requires-2
-    enum-known-f
-    target-requires
-    first-of-pair-requires
-    put-two-requires-2
-    enum-known-f-2
-    target-requires-2
-    put-branch-requires
-    enum-known-f-3
-    first-record-requires
-    put-two-requires-3
-    same-length
-    returns
-    same-length-2
-    returns-2
-    same-length-3
-    returns-3
-    same-length-4
-    returns-4
-    same-length-5
-    returns-5
-    same-length-6
+    (λ c. search needs) put-one-requires (λ c. search needs) (λ c κs. search needs) put-two-requires
+    (λ c. search needs) put-one-requires-2 (λ c. search needs) (λ c κs. search needs) (λ c κs. search needs)
+    put-two-requires-2 (λ c. search needs) (λ c κs. search needs) put-branch-requires (λ c. search needs)
+    first-record-requires put-two-requires-3 (λ c. search needs) returns (λ c. search needs) returns-2
+    (λ c. search needs) returns-3 (λ c. search needs) returns-4 (λ c. search needs) returns-5 (λ c. search needs)
     returns-6)
