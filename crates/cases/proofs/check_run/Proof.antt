@@ -1,5 +1,5 @@
 use Rattle.cases.proofs.Verdicts.{ran-by}
-use Rattle.cases.proofs.Areas.{start-length}
+use Rattle.case_files.proofs.Areas.{start-length}
 use Rattle.cases.specs.Kinds.{ranIn}
 use mathlib.Core.Path.{_∙_}
 use borrow.Author.Needs.{needs}
