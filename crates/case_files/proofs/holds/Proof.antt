@@ -16,22 +16,10 @@ abbrev μ-loop : tie.MeasureT-loop
 loop-holds : tie.Need-loop-holds Inv-loop μ-loop
 loop-holds c = (omega arith, λ j h. absurd (omega arith))
 
-shared-slice-read-if1 : tie.Need-shared-slice-read-if1 Inv-loop μ-loop
-shared-slice-read-if1 c = search needs
-
-byte-or-requires : tie.Need-byte-or-requires Inv-loop μ-loop
-byte-or-requires c κs = search needs
-
 returns : tie.Need-returns Inv-loop μ-loop
 returns c = let b = c .before .before .before .before .loop in
     let k = c .before .before .before .before .before .before .before .args in
     held-no (k .area .now) (k .known .now) (k .past) (b .i) (c .before .before .before .loop-test .taken) (λ e. c .if1 .taken (e ∙ sym (c .before .byte-or .ensures)))
-
-add-i : tie.Need-add-i Inv-loop μ-loop
-add-i c = search needs
-
-loop-less : tie.Need-loop-less Inv-loop μ-loop
-loop-less c = search needs
 
 loop-again : tie.Need-loop-again Inv-loop μ-loop
 loop-again c = let b = c .before .before .before .before .loop in
@@ -47,13 +35,5 @@ pub holds-spec : {M : Type 1} → statement M
 holds-spec =
     tie.close
     (tie.spec
-    Inv-loop
-    μ-loop
-    loop-holds
-    shared-slice-read-if1
-    byte-or-requires
-    returns
-    add-i
-    loop-less
-    loop-again
-    returns-2)
+    Inv-loop μ-loop loop-holds (λ c. search needs) (λ c κs. search needs) returns (λ c. search needs)
+    (λ c. search needs) loop-again returns-2)

@@ -7,12 +7,6 @@ use Prim.Native.Nat.{_+_}
 use Rattle.case_files.proofs.number.Statement.{statement}
 use Rattle.case_files.proofs.number.Tie as tie
 
-sub-if2 : tie.Need-sub-if2
-sub-if2 c = search needs
-
-read-number-requires : tie.Need-read-number-requires
-read-number-requires c κs = search needs
-
 returns : tie.Need-returns
 unfolding numberIn
 returns c = let k = c .before .before .before .before .args in
@@ -29,4 +23,4 @@ returns-3 c = let k = c .before .before .args in
     rw (lt-leb (k .at + 4) (length (k .bytes .now)) (omega arith))
 
 pub number-spec : {M : Type 1} → statement M
-number-spec = tie.close (tie.spec sub-if2 read-number-requires returns returns-2 returns-3)
+number-spec = tie.close (tie.spec (λ c. search needs) (λ c κs. search needs) returns returns-2 returns-3)

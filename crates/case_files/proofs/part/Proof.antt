@@ -28,27 +28,6 @@ part-least : (l : List ℕ) (s n a m : ℕ) → a ≡ min s (length l) → m ≡
 part-least l s n a m p q = let e : a + m - a ≡ m = omega arith in
     rw (e, q, ← length-drop a l, take-least n (drop a l) (leb n (length (drop a l))) refl, p, drop-least s l (leb s (length l)) refl)
 
-least-requires : tie.Need-least-requires
-least-requires c κs = search needs
-
-sub-least : tie.Need-sub-least
-sub-least c = search needs
-
-least-requires-2 : tie.Need-least-requires-2
-least-requires-2 c κs = search needs
-
-add-e : tie.Need-add-e
-add-e c = search needs
-
-sub-result : tie.Need-sub-result
-sub-result c = search needs
-
-part-result-start : tie.Need-part-result-start
-part-result-start c = search needs
-
-part-result-end : tie.Need-part-result-end
-part-result-end c = search needs
-
 returns : tie.Need-returns
 returns c = let k = c .before .before .before .before .args in
     part-least (k .bytes .now) (k .start) (k .n) _ _ (c .before .before .least .ensures) (c .before .least2 .ensures)
@@ -57,11 +36,5 @@ pub part-spec : {M : Type 1} → statement M
 part-spec =
     tie.close
     (tie.spec
-    least-requires
-    sub-least
-    least-requires-2
-    add-e
-    sub-result
-    part-result-start
-    part-result-end
-    returns)
+    (λ c κs. search needs) (λ c. search needs) (λ c κs. search needs) (λ c. search needs) (λ c. search needs)
+    (λ c. search needs) (λ c. search needs) returns)

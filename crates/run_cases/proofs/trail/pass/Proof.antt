@@ -3,24 +3,6 @@ use borrow.Author.Needs.{needs}
 use Rattle.run_cases.proofs.trail.pass.Statement.{statement}
 use Rattle.run_cases.proofs.trail.pass.Tie as tie
 
-number-requires : tie.Need-number-requires
-number-requires c κs = search needs
-
-cast-annulled : tie.Need-cast-annulled
-cast-annulled c = search needs
-
-pijorrel-old-run-requires : tie.Need-pijorrel-old-run-requires
-pijorrel-old-run-requires c κs = search needs
-
-stands-at-requires : tie.Need-stands-at-requires
-stands-at-requires c κs = search needs
-
-pijorrel-old-run-requires-2 : tie.Need-pijorrel-old-run-requires-2
-pijorrel-old-run-requires-2 c κs = search needs
-
-same-length : tie.Need-same-length
-same-length c = search needs
-
 returns : tie.Need-returns
 returns c =
     let b = c .before .before .before .before .before .before in
@@ -31,10 +13,5 @@ pub pass-spec : {M : Type 1} → statement M
 pass-spec =
     tie.close
     (tie.spec
-    number-requires
-    cast-annulled
-    pijorrel-old-run-requires
-    stands-at-requires
-    pijorrel-old-run-requires-2
-    same-length
-    returns)
+    (λ c κs. search needs) (λ c. search needs) (λ c κs. search needs) (λ c κs. search needs) (λ c κs. search needs)
+    (λ c. search needs) returns)
