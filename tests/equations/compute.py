@@ -22,11 +22,19 @@ from cases import Census, read_cases
 from statements import BATCH, SHOWN, equations, given, spoiled, written
 
 TOP = Path(__file__).resolve().parent.parent.parent
-CRATES = ("numbers", "words", "machine", "model")
+BELOW = {crate: needed.split() for crate, needed in (line.split(":") for line in (TOP / "crates.txt").read_text().splitlines())}
 BATCH_SIZE = 50
 REFUSED = re.compile(r"\S*/specs/Batch\d+\.antt:\d+:\d+: error: `(\w+)-(\d+)`")
 DIFFERS = re.compile(r"computed as far as they go, .* has `(.*)` \(expected\).* has `(.*)` \(found\)")
 Refused = namedtuple("Refused", "name number differs")
+
+
+def standing_under(crate):
+    """A crate and all that it stands on."""
+    return {crate}.union(*(standing_under(below) for below in BELOW[crate]))
+
+
+CRATES = [crate for crate in BELOW if crate in standing_under("model")]
 
 
 def ask_reading(seed, count):
@@ -46,17 +54,14 @@ def definitions():
 
 
 def copy_crates(work):
-    """The definitions with what they need. Of model's laws only those that its functions' proofs cite: equations need none."""
+    """The definitions with what they need, without model's laws: equations need none."""
     for crate in CRATES:
         for part in ("src", "specs", "proofs"):
             shutil.copytree(TOP / "crates" / crate / part, work / "crates" / crate / part)
     proofs = work / "crates" / "model" / "proofs"
-    texts = "".join(proof.read_text() for proof in proofs.glob("*/Proof.antt"))
-    cited = sorted(set(re.findall(r"^use Rattle\.model\.proofs\.(\w+)\.\{", texts, re.MULTILINE)))
     for law in proofs.glob("*.antt"):
-        if law.stem not in cited:
-            law.unlink()
-    (proofs / "Lib.antt").write_text("".join(f"pub mod {law}\n" for law in cited))
+        law.unlink()
+    (proofs / "Lib.antt").write_text("")
     for crate in CRATES:  # what the repository has proved, and has not changed since, is not proved again
         for made in (f"rlib/{crate}.rlib", f"stamp/{crate}"):
             if (TOP / "target" / made).exists():

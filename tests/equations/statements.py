@@ -76,7 +76,7 @@ use mathlib.Core.Path.{_≡_, refl}
 use mathlib.Core.List.{List, [], _∷_}
 use lib.ListN.{length}
 use Rattle.machine.specs.Ends.{ending}
-use Rattle.machine.specs.Effect.{machine}
+use Rattle.effects.specs.Effect.{machine}
 use Rattle.model.specs.Records.{doWord, link, hold, goIf, goTo, goHeld, stop, unknown, row}
 use Rattle.model.specs.Translation.{Handed, translation}
 use Rattle.model.specs.Trails.{entry}

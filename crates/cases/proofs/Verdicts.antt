@@ -1,25 +1,14 @@
--- Laws of verdicts: a bool as a number, and a run over as many zeros as a case's data has bytes.
-use mir.Val.{boolByte}
+-- Laws of verdicts: a run over as many zeros as a case's data has bytes.
 use lib.ListN.{take, replicate}
 use native.Mathlib.Omega.{arith}
-use mathlib.Core.Bool.{Bool, true, false, not}
 use mathlib.Core.List.{List}
-use mathlib.Core.Path.{_≡_, refl, ap, _∙_}
+use mathlib.Core.Path.{_≡_, ap, _∙_}
 use Prim.Native.Nat.{ℕ, _+_, min}
-use Rattle.numbers.specs.Choice.{pick}
-use Rattle.cases.proofs.Areas.{filled-start}
+use Rattle.case_files.proofs.Areas.{filled-start}
 use Rattle.cases.specs.declared.Core.{Core}
-use Rattle.cases.specs.declared.file.Found.{Found}
-use Rattle.cases.specs.Files.{numberIn, Checked, checked}
+use Rattle.case_files.specs.declared.Found.{Found}
+use Rattle.case_files.specs.Files.{numberIn, Checked, checked}
 use Rattle.cases.specs.Kinds.{sizeAt, ranIn, ran}
-
-pub bit-of : (b : Bool) → boolByte b ≡ pick b 1 0
-bit-of true = refl
-bit-of false = refl
-
-pub bit-of-not : (b : Bool) → boolByte (not b) ≡ pick b 0 1
-bit-of-not true = refl
-bit-of-not false = refl
 
 -- a run over the start of an area of zeros
 ran-over : (core : Core) (bytes : List ℕ) (at most n size : ℕ) {zeros : List ℕ} → zeros ≡ replicate most 0 → n ≡ min size most

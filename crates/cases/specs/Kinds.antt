@@ -6,13 +6,13 @@ use Rattle.cases.specs.declared.Core.{Core}
 use Rattle.cases.specs.declared.Core.the-variants.{Old, New, Trail}
 use Rattle.cases.specs.declared.Kind.{Kind}
 use Rattle.cases.specs.declared.Kind.the-variants.{Runs, Translation, Listing, Words}
-use Rattle.cases.specs.declared.file.Found.{Found}
-use Rattle.cases.specs.Files.{numberIn, Checked}
-use Rattle.cases.specs.Runs.{oldFound, newFound}
-use Rattle.cases.specs.Trails.{trailFound}
-use Rattle.cases.specs.Translations.{translationFound}
-use Rattle.cases.specs.Listings.{listedFound}
-use Rattle.cases.specs.Words.{wordFound}
+use Rattle.case_files.specs.declared.Found.{Found}
+use Rattle.case_files.specs.Files.{numberIn, Checked}
+use Rattle.run_cases.specs.Runs.{oldFound, newFound}
+use Rattle.run_cases.specs.Trails.{trailFound}
+use Rattle.answer_cases.specs.Translations.{translationFound}
+use Rattle.answer_cases.specs.Listings.{listedFound}
+use Rattle.answer_cases.specs.Words.{wordFound}
 
 -- how far into a core's case the number stands that counts its data
 unfoldable pub sizeAt : Core → ℕ

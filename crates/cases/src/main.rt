@@ -2,18 +2,10 @@
 ghost use mathlib.Core.Path.{_≡_};
 ghost use Prim.Native.Nat.{_+_, _≤_};
 ghost use lib.ListN.{length, replicate};
-ghost use Rattle.cases.specs.Files.{numberIn};
+ghost use Rattle.case_files.specs.Files.{numberIn};
 ghost use Rattle.cases.specs.Kinds.{sizeAt, ran, found};
-use file::Found;
+use case_files::Found;
 use libc::STDOUT_FILENO;
-
-mod file;
-mod listed;
-mod old;
-mod records;
-mod trail;
-mod translation;
-mod word;
 
 // The most bytes of a file that are read.
 const LARGEST: usize = 1048576;
@@ -60,9 +52,9 @@ fn data_size(core: Core, bytes: &[u8], at: usize) -> usize
     ensures { λ r. ⌜ r ≡ numberIn (now (bytes .entry)) (at + sizeAt core) ⌝ }
 {
     match core {
-        Core::Old => file::number(bytes, at + 16) as usize,
-        Core::New => file::number(bytes, at + 24) as usize,
-        Core::Trail => file::number(bytes, at + 16) as usize,
+        Core::Old => case_files::number(bytes, at + 16) as usize,
+        Core::New => case_files::number(bytes, at + 24) as usize,
+        Core::Trail => case_files::number(bytes, at + 16) as usize,
     }
 }
 
@@ -72,12 +64,12 @@ fn check_run(core: Core, bytes: &[u8], at: usize) -> Found
     ensures { λ r. ⌜ r ≡ ran core (now (bytes .entry)) at ⌝ }
 {
     let mut zeros = space();
-    let n = file::least(data_size(core, bytes, at), zeros.len());
+    let n = case_files::least(data_size(core, bytes, at), zeros.len());
     let area = &mut zeros[..n];
     match core {
-        Core::Old => old::check(bytes, at, area),
-        Core::New => records::check(bytes, at, area),
-        Core::Trail => trail::check(bytes, at, area),
+        Core::Old => run_cases::old::check(bytes, at, area),
+        Core::New => run_cases::records::check(bytes, at, area),
+        Core::Trail => run_cases::trail::check(bytes, at, area),
     }
 }
 
@@ -88,15 +80,15 @@ fn check(kind: Kind, bytes: &[u8], at: usize) -> Found
 {
     match kind {
         Kind::Runs(core) => check_run(core, bytes, at),
-        Kind::Translation => translation::check(bytes, at),
-        Kind::Listing => listed::check(bytes, at),
-        Kind::Words => word::check(bytes, at),
+        Kind::Translation => answer_cases::translation::check(bytes, at),
+        Kind::Listing => answer_cases::listed::check(bytes, at),
+        Kind::Words => answer_cases::word::check(bytes, at),
     }
 }
 
 // Runs the cases of a file, reports those that differ or are cut off, and answers how many entries agree.
 fn agreeing(kind: Kind, name: &[u8], bytes: &[u8]) -> u64 {
-    let count = file::number(bytes, 0);
+    let count = case_files::number(bytes, 0);
     let mut entries: u64 = 0;
     let mut at: usize = 4;
     let mut k: u32 = 0;
@@ -122,14 +114,14 @@ fn agreeing(kind: Kind, name: &[u8], bytes: &[u8]) -> u64 {
 
 // Runs a file, and says how many entries of how many cases agree, with the words that go between and after.
 fn run_with(kind: Kind, name: &[u8], buffer: &mut [u8; LARGEST], between: &[u8], after: &[u8]) {
-    let n = file::load(name, buffer);
-    let bytes = file::part(buffer, 0, n);
+    let n = case_files::load(name, buffer);
+    let bytes = case_files::part(buffer, 0, n);
     let entries = agreeing(kind, name, bytes);
     say(name);
     say(b": ");
     say_number(entries);
     say(between);
-    say_number(file::number(bytes, 0) as u64);
+    say_number(case_files::number(bytes, 0) as u64);
     say(after);
 }
 

@@ -1,10 +1,2 @@
 pub mod Ends
-pub mod FlagsExact
-pub mod Products
-pub mod ProductsExact
-pub mod Effects
 pub mod Zero
-pub mod Ring
-pub mod WindowLaws
-pub mod Bounds
-pub mod Opened

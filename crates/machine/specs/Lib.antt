@@ -1,9 +1,2 @@
 pub mod Ends
 pub mod Registers
-pub mod Arithmetic
-pub mod FlagsExact
-pub mod ProductsExact
-pub mod DataArea
-pub mod Windows
-pub mod WindowLaws
-pub mod Effect

@@ -1,15 +1,11 @@
-// What both cores share: registers, Y and register windows, flags, the data area, how a run ended, and the words that do not transfer control.
+// What both cores share: the register file, flags, the two counters, and how a run ended.
 ghost use mathlib.Core.Path.{_≡_};
 ghost use Prim.Native.Nat.{_<_};
 ghost use Rattle.numbers.specs.Number.{plus};
 ghost use Rattle.words.specs.Conditions.{bitOf};
 ghost use Rattle.machine.specs.Ends.{ending, endingOf, endingFrom, isGoing};
 
-pub mod arithmetic;
-pub mod data_area;
-pub mod effect;
 pub mod registers;
-pub mod windows;
 
 // An address of the source program. It is never read as a record number.
 pub struct SourcePc(pub u32);

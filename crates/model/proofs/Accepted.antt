@@ -20,10 +20,10 @@ use Rattle.model.specs.declared.Answer.the-variants.{Accepted, ImageLeng
 use Rattle.model.specs.OldCore.{inImage, wordIn}
 use Rattle.model.specs.Places.{plain, plains}
 use Rattle.model.specs.Walk.{Walked, table, refused, endless, placesOf}
-use Rattle.model.specs.Records.{group, past, rowsFrom, rowsOf, recordsOf, tableNumbers, recordsNumbers, numbersIn}
+use Rattle.model.specs.Records.{past, Grouping, inFull, rowsFrom, rowsOf, recordsOf, tableNumbers, recordsNumbers, numbersIn}
 use Rattle.model.specs.Translation.{Handed, badLength, badCount, badEntry, firstBad, placeRoom, filled, refusal, acceptance, fromWalk, translation}
 use Rattle.model.proofs.Members.{AllP}
-use Rattle.model.proofs.OldSide.{Aligned}
+use Rattle.model.proofs.Follows.{Aligned}
 use Rattle.model.proofs.Packed.{length-table, length-records}
 use Rattle.model.proofs.Walk.{places-fit}
 
@@ -61,10 +61,10 @@ entries-aligned base size k (e ∷ es) l h = go (badEntry base size e) refl h (e
     go true q i ih = absurd (omega arith)
     go false q i ih = (good-aligned base size e (l .0) q, ih i)
 
-length-rows : (image : List ℕ) (base f : ℕ) (ps : List Place) → length (rowsFrom image base f ps) ≡ length ps
+length-rows : (lay : Grouping) (f : ℕ) (ps : List Place) → length (rowsFrom lay f ps) ≡ length ps
 unfolding rowsFrom
-length-rows image base f [] = refl
-length-rows image base f (y ∷ ys) = ap suc (length-rows image base (past (group image base y) f) ys)
+length-rows lay f [] = refl
+length-rows lay f (y ∷ ys) = ap suc (length-rows lay (past (lay y ys) f) ys)
 
 -- ---------------------------------------------------------------- acceptance
 module _ (image : List ℕ) (base : ℕ) (entryList : List ℕ) (placesLength recordsLength P R : ℕ) where
@@ -77,8 +77,8 @@ module _ (image : List ℕ) (base : ℕ) (entryList : List ℕ) (placesLength re
     pub good : firstBad base (length image) 0 (numbersIn entryList) ≡ 0
     pub place-room : 16 * P ≤ placesLength
     pub record-room : 12 * R ≤ recordsLength
-    pub table-bytes : take (16 * P) (h .places) ≡ bytesOf (tableNumbers (rowsOf image base ps))
-    pub record-bytes : take (12 * R) (h .records) ≡ bytesOf (recordsNumbers (recordsOf image base ps))
+    pub table-bytes : take (16 * P) (h .places) ≡ bytesOf (tableNumbers (rowsOf (inFull image base) ps))
+    pub record-bytes : take (12 * R) (h .records) ≡ bytesOf (recordsNumbers (recordsOf (inFull image base) ps))
 
   -- an answer that is no acceptance
   abbrev refuses : Answer → Bool
@@ -99,22 +99,22 @@ module _ (image : List ℕ) (base : ℕ) (entryList : List ℕ) (placesLength re
   front ns size n e = take-at (bytesOf ns) (replicate (size - length (bytesOf ns)) 0) n (omega (arith, length-bytes ns))
 
   accepts : (ps : List Place) → placesOf image base (placeRoom placesLength) (numbersIn entryList) ≡ table ps
-      → firstBad base (length image) 0 (numbersIn entryList) ≡ 0 → length (recordsOf image base ps) ≤ recordsLength / 12
+      → firstBad base (length image) 0 (numbersIn entryList) ≡ 0 → length (recordsOf (inFull image base) ps) ≤ recordsLength / 12
       → acceptance image base placesLength recordsLength ps .answer ≡ Accepted P R
       → Took (acceptance image base placesLength recordsLength ps)
   unfolding acceptance rowsOf placeRoom
   accepts ps q g l e =
       let a : length ps ≡ P = cc in
-      let b : length (recordsOf image base ps) ≡ R = cc in
+      let b : length (recordsOf (inFull image base) ps) ≡ R = cc in
       record {
         ps = ps;
         made = q;
         good = g;
         place-room = omega (arith, places-fit image base (placeRoom placesLength) (numbersIn entryList) ps q);
         record-room = omega arith;
-        table-bytes = front (tableNumbers (rowsFrom image base 0 ps)) placesLength (16 * P)
-            (omega (arith, length-table (rowsFrom image base 0 ps), length-rows image base 0 ps));
-        record-bytes = front (recordsNumbers (recordsOf image base ps)) recordsLength (12 * R) (omega (arith, length-records (recordsOf image base ps)));
+        table-bytes = front (tableNumbers (rowsFrom (inFull image base) 0 ps)) placesLength (16 * P)
+            (omega (arith, length-table (rowsFrom (inFull image base) 0 ps), length-rows (inFull image base) 0 ps));
+        record-bytes = front (recordsNumbers (recordsOf (inFull image base) ps)) recordsLength (12 * R) (omega (arith, length-records (recordsOf (inFull image base) ps)));
       }
 
   past-test : (b : Bool) (a : Answer) (h : Handed) → refuses a ≡ true → (b ≡ false → h .answer ≡ Accepted P R → Took h)
@@ -129,18 +129,18 @@ module _ (image : List ℕ) (base : ℕ) (entryList : List ℕ) (placesLength re
   unfolding fromWalk
   took-walk g (refused n a) q e = past-test (eqb n 4) (Forbidden a) (Refused (NoRoom a)) refl (λ z. refused-no (NoRoom a) refl) e
   took-walk g endless q e = refused-no (NoRoom 0) refl e
-  took-walk g (table ps) q e = go (leb (length (recordsOf image base ps)) (recordsLength / 12)) refl e
+  took-walk g (table ps) q e = go (leb (length (recordsOf (inFull image base) ps)) (recordsLength / 12)) refl e
     where
       accepted : Handed
       accepted = acceptance image base placesLength recordsLength ps
 
       short : Handed
-      short = Refused (RecordsShort (length (recordsOf image base ps)))
+      short = Refused (RecordsShort (length (recordsOf (inFull image base) ps)))
 
-      go : (b : Bool) → leb (length (recordsOf image base ps)) (recordsLength / 12) ≡ b → pick b accepted short .answer ≡ Accepted P R
+      go : (b : Bool) → leb (length (recordsOf (inFull image base) ps)) (recordsLength / 12) ≡ b → pick b accepted short .answer ≡ Accepted P R
           → Took (pick b accepted short)
       go true l i = accepts ps q g (leb-true _ _ l) i
-      go false l i = refused-no (RecordsShort (length (recordsOf image base ps))) refl i
+      go false l i = refused-no (RecordsShort (length (recordsOf (inFull image base) ps))) refl i
 
   pub took : translation image base entryList placesLength recordsLength .answer ≡ Accepted P R
       → Took (translation image base entryList placesLength recordsLength)

@@ -2,14 +2,13 @@
 use Prim.Native.Nat.{ℕ, zero, suc, _+_, _*_, _%_, _/_, _^_, _<_}
 use native.Mathlib.Omega.{arith}
 use mathlib.Core.Path.{_≡_, refl}
-use mathlib.Core.Bool.{Bool, true, false, _&&_, _||_}
+use mathlib.Core.Bool.{Bool, true, false, _&&_}
 use mathlib.Core.List.{List, [], _∷_, _++_}
 use mathlib.Core.Option.{Option, none, some}
 use lib.Dec.{eqb, leb}
 use lib.ListN.{length, getElem?}
-use borrow.Author.Tests.{eqb-true, leb-true, leb-false}
+use borrow.Author.Tests.{leb-true, leb-false}
 use Rattle.numbers.proofs.Lists.{at-up, past-up}
-use Rattle.numbers.specs.Choice.{pick}
 use Rattle.numbers.specs.Number.{Below, numberAt, upTo}
 use Rattle.numbers.proofs.Choice.{either}
 use Rattle.numbers.proofs.Bounds.{number-lt, plus-lt}
@@ -18,13 +17,14 @@ use Rattle.words.specs.Reader.{instructionOf}
 use Rattle.words.specs.declared.Instruction.{Instruction}
 use Rattle.machine.specs.Ends.{ending, Next, go, halt, within, State, state, settle}
 use Rattle.machine.specs.Registers.{addressOf}
-use Rattle.machine.specs.Effect.{Machine, effectOf}
-use Rattle.machine.proofs.Bounds.{Sound, SoundEnd, Leaves, leaves-within, put-sound, address-lt, fitsIn, word-fits, effects-sound}
+use Rattle.effects.specs.Effect.{Machine, effectOf}
+use Rattle.effects.proofs.Bounds.{Sound, SoundEnd, Leaves, leaves-within, put-sound, address-lt, fitsIn, word-fits, effects-sound}
 use Rattle.model.specs.Run.{step, run}
-use Rattle.model.specs.OldCore.{Old, old, inImage, wordIn, Transfer, illegal, straight, trap, call, bicc, jmpl, transferOf, target, follows, branches, jumps, executes, fetches, oldNext}
+use Rattle.model.specs.OldCore.{Old, old, wordIn, Transfer, illegal, straight, trap, call, bicc, jmpl, transferOf, target, follows, branches, jumps, executes, fetches, oldNext}
 use Rattle.model.specs.Records.{Rec, doWord, link, hold, goIf, goTo, goHeld, stop, unknown, Row, row, rowAt, rowsIn, recordOf, recordAt, recordsIn}
-use Rattle.model.specs.NewCore.{New, new, following, fit, doesWord, holds, chooses, seek, lost, goes, stops, does, newNext}
+use Rattle.model.specs.NewCore.{New, new, following, seek, newNext}
 use Rattle.model.proofs.Middle.{linked}
+use Rattle.model.proofs.NewStep.{Outcome, bad, works, links, keeps, misaligned, taken, untaken, moves, found, outside, unplaced, stopped, outcome}
 
 -- ---------------------------------------------------------------- states of any core
 -- 0 has 0 beside it
@@ -177,65 +177,26 @@ module _ (n : ℕ) (records places : List ℕ) (base size db : ℕ) (m : Machine
   unfolding following
   following-sound k t g l = (g, plus-lt r 1, l)
 
-  word-leaves : (w : ℕ) → Good (doesWord db w m r h)
-  unfolding doesWord
-  word-leaves w =
-      either Good (fit (transferOf (instructionOf w))) (within (following r h) (effectOf db (instructionOf w) m)) (halt (ending 7 r))
-      (leaves-within (Sound n) (SoundNew n) (following r h) (λ k g. following-sound k h g lh) (effectOf db (instructionOf w) m)
-      (effects-sound n db (instructionOf w) m (word-fits w) s)) (omega arith)
-
-  hold-leaves : (t : Transfer) (p : ℕ) → p < 2 ^ 32 → Good (holds t p m r)
-  unfolding holds
-  hold-leaves illegal p l = omega arith
-  hold-leaves straight p l = omega arith
-  hold-leaves trap p l = omega arith
-  hold-leaves (call disp) p l = omega arith
-  hold-leaves (bicc cond annul disp) p l = omega arith
-  hold-leaves (jmpl rd rs1 x) p l =
-      let t = addressOf (m .registers) rs1 x in
-      let a = address-lt (m .registers) rs1 x in
-      either Good (eqb (t % 4) 0) (go (following r t (linked m rd p))) (halt (ending 4 t)) (following-sound (linked m rd p) t (put-sound n m rd p s l) a)
-      (omega arith)
-
-  choose-leaves : (cond to : ℕ) → to < 2 ^ 32 → Good (chooses cond to m r h)
-  unfolding chooses
-  choose-leaves cond to l =
-      either Good (leb cond 15) (go (pick (holdsOf cond (m .flags)) (new m to h) (following r h m))) (halt (ending 7 r))
-      (either (SoundNew n) (holdsOf cond (m .flags)) (new m to h) (following r h m) (s, l, lh) (following-sound m h s lh)) (omega arith)
-
-  lost-ends : (b : Bool) → SoundEnd (lost b h)
-  unfolding lost
-  lost-ends true = omega arith
-  lost-ends false = omega arith
-
-  seek-leaves : (o : Option ℕ) (b : Bool) → FoundLt o → Good (goes o b m h)
-  unfolding goes
-  seek-leaves (some f) b l = (s, l, lh)
-  seek-leaves none b l = lost-ends b
-
-  stop-leaves : (e p : ℕ) → p < 2 ^ 32 → Good (stops e p r)
-  unfolding stops
-  stop-leaves e p l = go-stop (eqb e 2) (eqb e 3) refl refl
-    where
-      go-stop : (a b : Bool) → eqb e 2 ≡ a → eqb e 3 ≡ b → Good (pick (a || b) (halt (ending e p)) (halt (ending 7 r)))
-      go-stop true b i j = omega (arith, eqb-true e 2 i)
-      go-stop false true i j = omega (arith, eqb-true e 3 j)
-      go-stop false false i j = omega arith
-
-  does-leaves : (o : Option (Rec ℕ)) → Below 256 places → AtLt o → Good (does (rowsIn places) base size db o m r h)
-  unfolding does
-  does-leaves none b l = omega arith
-  does-leaves (some (doWord w)) b l = word-leaves w
-  does-leaves (some (link p)) b l = following-sound (linked m 15 p) h (put-sound n m 15 p s l) lh
-  does-leaves (some (hold w p)) b l = hold-leaves (transferOf (instructionOf w)) p l
-  does-leaves (some (goIf cond to)) b l = choose-leaves cond to l
-  does-leaves (some (goTo to)) b l = (s, l, lh)
-  does-leaves (some goHeld) b l = seek-leaves (seek (rowsIn places) h) (inImage base size h) (found-lt places h b)
-  does-leaves (some (stop e p)) b l = stop-leaves e p l
-  does-leaves (some unknown) b l = omega arith
+  outcome-leaves : {o : Option (Rec ℕ)} {x : Next New} → Below 256 places → AtLt o → Outcome (rowsIn places) base size db m r h o x → Good x
+  outcome-leaves b l bad = omega arith
+  outcome-leaves b l (works w) =
+      leaves-within (Sound n) (SoundNew n) (following r h) (λ k g. following-sound k h g lh) (effectOf db (instructionOf w) m)
+      (effects-sound n db (instructionOf w) m (word-fits w) s)
+  outcome-leaves b l (links p) = following-sound (linked m 15 p) h (put-sound n m 15 p s l) lh
+  outcome-leaves b l (keeps w p rd rs1 x) =
+      following-sound (linked m rd p) (addressOf (m .registers) rs1 x) (put-sound n m rd p s l) (address-lt (m .registers) rs1 x)
+  outcome-leaves b l (misaligned w p rs1 x) = omega (arith, address-lt (m .registers) rs1 x)
+  outcome-leaves b l (taken cond to) = (s, l, lh)
+  outcome-leaves b l (untaken cond to) = following-sound m h s lh
+  outcome-leaves b l (moves to) = (s, l, lh)
+  outcome-leaves b l (found f q) = (s, rw q at (found-lt places h b), lh)
+  outcome-leaves b l outside = omega arith
+  outcome-leaves b l (unplaced q i) = omega arith
+  outcome-leaves b l (stopped e p k) = omega arith
 
 pub new-leaves : (n : ℕ) (records places : List ℕ) (base size db : ℕ) → Below 256 records → Below 256 places → (s : New) → SoundNew n s
     → Leaves (SoundNew n) (newNext records places base size db s)
 unfolding newNext
 new-leaves n records places base size db br bp (new m r h) g =
-    does-leaves n records places base size db m r h (g .0) (g .1) (g .2) (getElem? (recordsIn records) r) bp (record-lt records r br)
+    outcome-leaves n records places base size db m r h (g .0) (g .1) (g .2) bp (record-lt records r br)
+    (outcome (rowsIn places) base size db m r h (getElem? (recordsIn records) r))

@@ -10,10 +10,11 @@ use borrow.Author.Tests.{leb-true, ne-eqb}
 use Rattle.numbers.specs.Choice.{pick}
 use Rattle.numbers.specs.Number.{Below, numberAt}
 use Rattle.numbers.proofs.Bounds.{number-lt}
+use Rattle.words.proofs.Conditions.{bit-lt}
 use Rattle.words.specs.Conditions.{bitOf}
 use Rattle.machine.specs.Ends.{Ending, ending, endingFrom, state}
-use Rattle.machine.specs.Windows.{laid}
-use Rattle.machine.specs.Effect.{Machine, machine}
+use Rattle.windows.specs.Windows.{laid}
+use Rattle.effects.specs.Effect.{Machine, machine}
 use Rattle.model.specs.Run.{dataOf}
 use Rattle.model.specs.OldCore.{Old, old, oldNext}
 use Rattle.model.specs.NewCore.{New, new, newNext}
@@ -54,11 +55,6 @@ oldArea (old m pc npc annul) = m .area
 abbrev oldTail : ℕ → ℕ → Bool → ℕ → ℕ → List ℕ
 oldTail pc npc annul k v = pc ∷ npc ∷ bitOf annul ∷ k ∷ v ∷ []
 
-bit-lt : (b : Bool) → bitOf b < 2 ^ 32
-unfolding bitOf
-bit-lt true = omega arith
-bit-lt false = omega arith
-
 module _ (n : ℕ) (m : Machine) (pc npc : ℕ) (annul : Bool) (k v : ℕ) (h : SoundState (SoundOld n) (state (old m pc npc annul) (ending k v))) where
   abbrev oldPart : SoundOld n (old m pc npc annul)
   oldPart = state-part (SoundOld n) (old m pc npc annul) k v h
@@ -66,7 +62,7 @@ module _ (n : ℕ) (m : Machine) (pc npc : ℕ) (annul : Bool) (k v : ℕ) (h : 
   old-below : Below (2 ^ 32) (oldTail pc npc annul k v)
   old-below =
       let l = ending-lt (SoundOld n) (old m pc npc annul) k v h in
-      (oldPart .1, (oldPart .2, (bit-lt annul, (l .0, (l .1, tt)))))
+      (oldPart .1, (oldPart .2, (omega (arith, bit-lt annul), (l .0, (l .1, tt)))))
 
   -- PC, annul: the numbers that a trail is read off
   pub old-pc : numberAt (oldBytes (state (old m pc npc annul) (ending k v))) 132 ≡ pc

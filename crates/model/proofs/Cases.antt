@@ -7,7 +7,7 @@ use Rattle.numbers.proofs.Choice.{both}
 use Rattle.numbers.specs.Number.{plus, minus, signed, numberAt, bytesOf, numbersOf, upTo}
 use Rattle.words.specs.Reader.{bits, bitSet, operandOf, format0Of, format2Of, format3Of, setFrom, registerStrays, rdyStrays, wryStrays, unusedSet, strictly, byFormat, instructionOf, isUnimp}
 use Rattle.words.specs.Conditions.{rows, bitAt, holdsOf, bitOf, nzvcOf}
-use Rattle.machine.proofs.Opened.{machine-open, windows-open}
+use Rattle.effects.proofs.Opened.{machine-open, windows-open}
 use Rattle.model.specs.Cases.{over, start, shown, product, endOf, ended, newEnded, stepAt, cases, noCase, Row, bytesBack, given, answered, listedAt, listed, entriesTold, told, begins, beginsWithY, anyWindows, oldCut, oldTold, newCut, newTold, yTold, windowed, windowsTold, fileTold}
 use Rattle.model.specs.Cores.{shownOf, begunWith, oldMark, oldShown, naming, newMark, newShown, goesBy, newByHeld, newTrailAt}
 use Rattle.model.specs.NewCore.{following, fit, doesWord, holds, chooses, seek, lost, goes, stops, does, newNext, begunAt, newBegun}

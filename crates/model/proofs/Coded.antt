@@ -6,7 +6,7 @@ use mathlib.Core.Path.{_≡_, refl}
 use mathlib.Core.List.{List, _++_}
 use lib.ListN.{length}
 use Rattle.machine.specs.Ends.{Ending, ending, Next, go, halt, State, state, live, settle}
-use Rattle.machine.proofs.Bounds.{Leaves}
+use Rattle.effects.proofs.Bounds.{Leaves}
 use Rattle.model.specs.Run.{step, run, dataOf, beyond}
 use Rattle.model.specs.StateBytes.{After}
 use Rattle.model.specs.Interface.{Bytes, bytes, answered, called}

@@ -2,22 +2,20 @@
 use Prim.Native.Nat.{ℕ, zero, suc, _+_, _*_, _≤_}
 use native.Mathlib.Omega.{arith}
 use mathlib.Core.Path.{_≡_, refl, sym, ap, _∙_}
-use mathlib.Core.Bool.{true, false}
+use mathlib.Core.Bool.{Bool, true, false, false≢true}
 use mathlib.Core.List.{List, [], _∷_}
 use mathlib.Core.Option.{Option, none, some}
 use lib.ListN.{length, take}
 use Rattle.numbers.specs.Number.{plus}
 use Rattle.machine.specs.Ends.{Ending, ending, State, state, live, settle}
-use Rattle.machine.specs.Effect.{Machine}
-use Rattle.model.specs.declared.Place.{Place}
+use Rattle.effects.specs.Effect.{Machine}
 use Rattle.model.specs.Run.{step}
 use Rattle.model.specs.OldCore.{Old, old, follows, oldNext}
 use Rattle.model.specs.Places.{plain, placeAt, member}
-use Rattle.model.specs.Records.{rowsOf, recordsOf, rowsIn, recordsIn}
-use Rattle.model.specs.Trails.{Trail, cut, spent, shut, at, trail, Entry, entry, entries, closing, opening, lastAt, later, gaps, OneOrTwo, Unspent}
-use Rattle.model.specs.Cores.{shownOf, begunWith, oldMark, oldShown, oldOver, newShown}
-use Rattle.model.proofs.Simulation.{Same, both-cut, both-shut, both-at, no-place, Closed, sim}
-use Rattle.model.proofs.NewSide.{newCore, toNew, new-mark}
+use Rattle.model.specs.Trails.{Core, Trail, cut, spent, shut, at, trail, Entry, entry, entries, closing, opening, lastAt, later, gaps, OneOrTwo, Unspent}
+use Rattle.model.specs.Cores.{shownOf, begunWith, oldMark, oldOver}
+use Rattle.model.proofs.Follows.{Follower, Meet}
+use Rattle.model.proofs.Simulation.{Same, both-cut, both-shut, both-at, left-strays, right-strays, both-stray, sim}
 
 -- an end's number, and the number beside it
 abbrev pub number : Ending → ℕ
@@ -27,44 +25,62 @@ abbrev pub value : Ending → ℕ
 value (ending n v) = v
 
 -- ---------------------------------------------------------------- where two trails are the same
-pub record Told (t u : Trail) : Type 0 where
-  pub equal : ¬ (number (closing u) ≡ 6) → (entries t ≡ entries u) × (closing t ≡ closing u)
-  pub six : number (closing u) ≡ 6 → take (length (entries u)) (entries t) ≡ entries u
+-- equal, or one of them strayed, and ended with 6 at an address at which the other goes on: then they are equal as far as it goes
+pub data Verdict (C D : ℕ → Bool) (t u : Trail) : Type 0 where
+  alike : entries t ≡ entries u → closing t ≡ closing u → Verdict C D t u
+  left-ended : (a : ℕ) → C a ≡ false → D a ≡ true → closing t ≡ ending 6 a → take (length (entries t)) (entries u) ≡ entries t → Verdict C D t u
+  right-ended : (a : ℕ) → C a ≡ true → D a ≡ false → closing u ≡ ending 6 a → take (length (entries u)) (entries t) ≡ entries u → Verdict C D t u
 
-pub told : {lo : ℕ} (t u : Trail) → Same lo t u → Told t u
-told t u both-cut = record { equal = λ h. (refl, refl); six = λ h. refl }
-told t u (both-shut e y) = record { equal = λ h. (refl, refl); six = λ h. refl }
-told t u (both-at a m {t = x} {u = y} p q s) =
-    let r : Told x y = told x y s in
-    record {
-      equal = λ h. (ap {B = List Entry} (λ l. entry a m ∷ l) (r .equal h .0), r .equal h .1);
-      six = λ h. ap {B = List Entry} (λ l. entry a m ∷ l) (r .six h);
-    }
-told t u (no-place a m x p q) = record { equal = λ h. absurd (h refl); six = λ h. refl }
+module _ (C D : ℕ → Bool) where
+  further : (g h a : ℕ) (m : Machine) (t u : Trail) → Verdict C D t u → Verdict C D (at g a m t) (at h a m u)
+  further g h a m t u (alike p q) = alike (ap {B = List Entry} (λ l. entry a m ∷ l) p) q
+  further g h a m t u (left-ended b x y e p) = left-ended b x y e (ap {B = List Entry} (λ l. entry a m ∷ l) p)
+  further g h a m t u (right-ended b x y e p) = right-ended b x y e (ap {B = List Entry} (λ l. entry a m ∷ l) p)
 
-pub last-six : {lo : ℕ} (z : ℕ) (t u : Trail) → Same lo t u → number (closing u) ≡ 6 → lastAt (entries u) z ≡ value (closing u)
-last-six z t u both-cut h = absurd (omega arith)
-last-six z t u (both-shut (ending c v) y) h = absurd (omega arith)
-last-six z t u (both-at a m {t = x} {u = y} p q s) h = last-six a x y s h
-last-six z t u (no-place a m x p q) h = refl
+  pub verdict : {lo : ℕ} (t u : Trail) → Same C D lo t u → Verdict C D t u
+  verdict t u both-cut = alike refl refl
+  verdict t u (both-shut e y) = alike refl refl
+  verdict t u (both-at {g = g} {h = h} a m {t = x} {u = y} p q s) = further g h a m x y (verdict x y s)
+  verdict t u (left-strays a m x p q y z) = left-ended a y z refl refl
+  verdict t u (right-strays a m x p q y z) = right-ended a y z refl refl
+  verdict t u (both-stray a m p q y z) = alike refl refl
 
-later-new : (t u : Trail) → Same 1 t u → OneOrTwo (later u)
-later-new t u both-cut = tt
-later-new t u (both-shut e y) = tt
-later-new t u (both-at a m {t = x} {u = y} p q s) = (q, later-new x y s)
-later-new t u (no-place a m x p q) = (q, tt)
+  -- -------------------------------------------------------------- where the first never strays: what the second's trail is like
+  module _ (never : (a : ℕ) → C a ≡ true) where
+    goes-on : {A : Type 0} (a : ℕ) → C a ≡ false → A
+    goes-on a e = absurd (false≢true (sym e ∙ never a))
 
-pub gaps-new : (t u : Trail) → Same 0 t u → OneOrTwo (gaps u)
-gaps-new t u both-cut = tt
-gaps-new t u (both-shut e y) = tt
-gaps-new t u (both-at a m {t = x} {u = y} p q s) = later-new x y s
-gaps-new t u (no-place a m x p q) = tt
+    pub last-six : {lo : ℕ} (z : ℕ) (t u : Trail) → Same C D lo t u → number (closing u) ≡ 6 → lastAt (entries u) z ≡ value (closing u)
+    last-six z t u both-cut h = absurd (omega arith)
+    last-six z t u (both-shut (ending c v) y) h = absurd (omega arith)
+    last-six z t u (both-at a m {t = x} {u = y} p q s) h = last-six a x y s h
+    last-six z t u (left-strays a m x p q e f) h = goes-on a e
+    last-six z t u (right-strays a m x p q e f) h = refl
+    last-six z t u (both-stray a m p q e f) h = refl
 
-pub new-unspent : {lo : ℕ} (t u : Trail) → Same lo t u → Unspent u
-new-unspent t u both-cut = tt
-new-unspent t u (both-shut e y) = tt
-new-unspent t u (both-at a m {t = x} {u = y} p q s) = new-unspent x y s
-new-unspent t u (no-place a m x p q) = tt
+    later-new : (t u : Trail) → Same C D 1 t u → OneOrTwo (later u)
+    later-new t u both-cut = tt
+    later-new t u (both-shut e y) = tt
+    later-new t u (both-at a m {t = x} {u = y} p q s) = (q, later-new x y s)
+    later-new t u (left-strays a m x p q e f) = goes-on a e
+    later-new t u (right-strays a m x p q e f) = (q, tt)
+    later-new t u (both-stray a m p q e f) = (q, tt)
+
+    pub gaps-new : (t u : Trail) → Same C D 0 t u → OneOrTwo (gaps u)
+    gaps-new t u both-cut = tt
+    gaps-new t u (both-shut e y) = tt
+    gaps-new t u (both-at a m {t = x} {u = y} p q s) = later-new x y s
+    gaps-new t u (left-strays a m x p q e f) = goes-on a e
+    gaps-new t u (right-strays a m x p q e f) = tt
+    gaps-new t u (both-stray a m p q e f) = tt
+
+    pub new-unspent : {lo : ℕ} (t u : Trail) → Same C D lo t u → Unspent u
+    new-unspent t u both-cut = tt
+    new-unspent t u (both-shut e y) = tt
+    new-unspent t u (both-at a m {t = x} {u = y} p q s) = new-unspent x y s
+    new-unspent t u (left-strays a m x p q e f) = goes-on a e
+    new-unspent t u (right-strays a m x p q e f) = tt
+    new-unspent t u (both-stray a m p q e f) = tt
 
 -- ---------------------------------------------------------------- first entries
 abbrev headOf : List Entry → Option Entry
@@ -140,46 +156,44 @@ module _ (image : List ℕ) (base db : ℕ) where
   abbrev pub oldTrail : ℕ → ℕ → ℕ → Machine → Trail
   oldTrail f k a m = O f k 0 (live (old m a (plus a 4) false))
 
-  pub old-first : (f k a : ℕ) (m : Machine) → 1 ≤ f → 1 ≤ k → (rest : Trail) × (oldTrail f k a m ≡ at 0 a (shownOf m) rest)
-  unfolding oldMark oldShown
-  old-first zero k a m lf lk = absurd (omega arith)
-  old-first (suc f) zero a m lf lk = absurd (omega arith)
-  old-first (suc f) (suc k) a m lf lk = (O f k 1 (next (old m a (plus a 4) false)), refl)
-
   pub gaps-old : (f k a : ℕ) (m : Machine) → 1 ≤ f → 1 ≤ k → OneOrTwo (gaps (oldTrail f k a m))
   unfolding oldMark
   gaps-old zero k a m lf lk = absurd (omega arith)
   gaps-old (suc f) zero a m lf lk = absurd (omega arith)
   gaps-old (suc f) (suc k) a m lf lk = later-old f k 1 (next (old m a (plus a 4) false)) (due-one (next (old m a (plus a 4) false)))
 
-  -- -------------------------------------------------------------- both
-  module _ (ps : List Place) (records places : List ℕ) (er : rowsIn places ≡ rowsOf image base ps) (ec : recordsIn records ≡ recordsOf image base ps) where
-    -- the new trail begun at the plain place of b
-    abbrev pub newTrail : ℕ → ℕ → ℕ → Machine → Trail
-    newTrail g k b m = trail (newCore image base db ps records places) g k 0 (live (toNew image base db ps records places (plain b) 0 m))
+-- ---------------------------------------------------------------- two cores that follow places, begun at plain places
+module _ (image : List ℕ) (base db : ℕ) {S : Type 0} {c : Core S} (F : Follower image base db c) where
+  -- the trail begun at the plain place of a, by f steps
+  abbrev pub trailFrom : ℕ → ℕ → ℕ → Machine → Trail
+  trailFrom f k a m = trail c f k 0 (live (F .to (plain a) 0 m))
 
-    pub new-first : (g k b : ℕ) (m : Machine) → 1 ≤ g → 1 ≤ k → member ps (plain b) ≡ true
-        → (rest : Trail) × (newTrail g k b m ≡ at 0 b (shownOf m) rest)
-    unfolding newShown placeAt
-    new-first zero k b m lg lk h = absurd (omega arith)
-    new-first (suc g) zero b m lg lk h = absurd (omega arith)
-    new-first (suc g) (suc k) b m lg lk h = (
-      trail (newCore image base db ps records places) g k 1 (step (newCore image base db ps records places .next)
-          (live (toNew image base db ps records places (plain b) 0 m))),
-      rw (new-mark image base db ps records places er ec (plain b) 0 m h),
-    )
+  pub first-entry : (f k a : ℕ) (m : Machine) → 1 ≤ f → 1 ≤ k → member (F .ps) (plain a) ≡ true → (rest : Trail) × (trailFrom f k a m ≡ at 0 a (shownOf m) rest)
+  unfolding placeAt
+  first-entry zero k a m lf lk h = absurd (omega arith)
+  first-entry (suc f) zero a m lf lk h = absurd (omega arith)
+  first-entry (suc f) (suc k) a m lf lk h =
+      (trail c f k 1 (step (c .next) (live (F .to (plain a) 0 m))), rw (F .marks (plain a) 0 m h, F .shows (plain a) 0 m))
 
-    module _ (C : Closed image base ps) (few : length ps ≤ 8192) where
-      pub from-one : (f g k a : ℕ) (m : Machine) → 2 * k + 1 ≤ f → 2 * k + 1 ≤ g → member ps (plain a) ≡ true
-          → Same 0 (oldTrail f k a m) (newTrail g k a m)
-      from-one f g k a m lf lg h = sim image base db ps records places er ec C few k f g 0 0 lf lg 0 (omega arith) (omega arith) (plain a) 0 m h refl
+module _ (image : List ℕ) (base db : ℕ) {S T : Type 0} {c : Core S} {d : Core T} (F : Follower image base db c) (G : Follower image base db d)
+    (meet : Meet F G) where
+  abbrev t : ℕ → ℕ → ℕ → Machine → Trail
+  t = trailFrom image base db F
 
-      pub from-two : (f g k a b : ℕ) (m n : Machine) → 2 * k + 1 ≤ f → 2 * k + 1 ≤ g → 1 ≤ k → begunWith (shownOf m) ≡ m → begunWith (shownOf n) ≡ n → member ps (plain b) ≡ true
-          → opening (oldTrail f k a m) ≡ opening (newTrail g k b n) → Same 0 (oldTrail f k a m) (newTrail g k b n)
-      from-two f g k a b m n lf lg lk dm dn h e =
-          let z : some (entry a (shownOf m)) ≡ some (entry b (shownOf n)) =
-          sym (ap opening (old-first f k a m (omega arith) lk .1)) ∙ e ∙ ap opening (new-first g k b n (omega arith) lk h .1) in
-          let p : a ≡ b = cc in
-          let r : shownOf m ≡ shownOf n = cc in
-          let q : m ≡ n = sym dm ∙ ap begunWith r ∙ dn in
-          rw (p, q) (from-one f g k b n lf lg h)
+  abbrev u : ℕ → ℕ → ℕ → Machine → Trail
+  u = trailFrom image base db G
+
+  pub from-one : (f g k a : ℕ) (m : Machine) → 2 * k + 1 ≤ f → 2 * k + 1 ≤ g → member (F .ps) (plain a) ≡ true → member (G .ps) (plain a) ≡ true
+      → Same (F .goes) (G .goes) 0 (t f k a m) (u g k a m)
+  from-one f g k a m lf lg x y = sim image base db F G meet k f g 0 0 lf lg 0 (omega arith) (omega arith) (plain a) 0 m x y refl
+
+  pub from-two : (f g k a b : ℕ) (m n : Machine) → 2 * k + 1 ≤ f → 2 * k + 1 ≤ g → 1 ≤ k → begunWith (shownOf m) ≡ m → begunWith (shownOf n) ≡ n
+      → member (F .ps) (plain a) ≡ true → member (G .ps) (plain b) ≡ true → opening (t f k a m) ≡ opening (u g k b n)
+      → Same (F .goes) (G .goes) 0 (t f k a m) (u g k b n)
+  from-two f g k a b m n lf lg lk dm dn x y e =
+      let z : some (entry a (shownOf m)) ≡ some (entry b (shownOf n)) =
+      sym (ap opening (first-entry image base db F f k a m (omega arith) lk x .1)) ∙ e ∙ ap opening (first-entry image base db G g k b n (omega arith) lk y .1) in
+      let p : a ≡ b = cc in
+      let r : shownOf m ≡ shownOf n = cc in
+      let q : m ≡ n = sym dm ∙ ap begunWith r ∙ dn in
+      rw (p, q) (from-one f g k b n lf lg (rw p at x) y)

@@ -4,38 +4,40 @@ use native.Mathlib.Nat.{zero-add}
 use native.Mathlib.Omega.{arith}
 use mathlib.Core.Path.{_≡_, refl, sym, ap, _∙_}
 use mathlib.Core.Logic.{_↔_}
-use mathlib.Core.Bool.{Bool, true, false}
+use mathlib.Core.Bool.{Bool, true, false, false≢true}
 use mathlib.Core.List.{List}
 use mathlib.Core.Option.{none, some}
 use lib.ListN.{length, getD, take}
+use lib.Seq.{take-all}
 use Rattle.numbers.specs.Number.{Below, plus, bytesOf}
 use Rattle.numbers.proofs.Bounds.{below-bytes}
-use Rattle.machine.specs.Ends.{Ending, ending, halt, State, state, live, settle}
+use Rattle.machine.specs.Ends.{ending, halt, State, state, live, settle}
 use Rattle.machine.specs.Registers.{yOf}
-use Rattle.machine.specs.Windows.{nestingOf, placeOf, laid as laidDown, comeIn}
-use Rattle.machine.specs.Effect.{Machine, machine}
-use Rattle.machine.proofs.Ring.{laid-low, laid-free, laid-own, laid-length, laid-nesting, in-low, in-nesting, in-free}
+use Rattle.windows.specs.Windows.{nestingOf, placeOf, laid as laidDown, comeIn}
+use Rattle.effects.specs.Effect.{Machine, machine}
+use Rattle.windows.proofs.Ring.{laid-low, laid-free, laid-own, laid-length, laid-nesting, in-low, in-nesting, in-free}
 use Rattle.model.specs.declared.Place.{Place}
 use Rattle.model.specs.declared.Answer.the-variants.{Accepted}
 use Rattle.model.specs.Run.{step, run}
 use Rattle.model.specs.OldCore.{old, inImage, oldBegun}
 use Rattle.model.specs.Places.{plain, member, Makes}
 use Rattle.model.specs.Walk.{table, placesOf}
-use Rattle.model.specs.Records.{first, rowsOf, recordsOf, rowsIn, recordsIn, numbersIn, tableNumbers, recordsNumbers}
+use Rattle.model.specs.Records.{inFull, first, rowsOf, recordsOf, rowsIn, recordsIn, numbersIn, tableNumbers, recordsNumbers}
 use Rattle.model.specs.NewCore.{New, new, seek, begunAt, newBegun}
 use Rattle.model.specs.Translation.{Handed, translation, placeRoom}
-use Rattle.model.specs.Trails.{Core, Trail, at, trail, entry, closing, opening, Unspent, stood}
+use Rattle.model.specs.Trails.{Core, Trail, at, trail, entry, entries, closing, opening, Unspent, stood}
 use Rattle.model.specs.Cores.{wholeFile, shownOf, Start, startMachine, oldOver, newOver, oldBegin, newBegin, stepsFor, trailOf, newTrailAt}
-use Rattle.model.specs.Demand3.{Placed, Begins, Complete, Strays, Claim, Holds, Demand3}
+use Rattle.model.specs.Demand3.{Placed, Begins, Complete, Strays, Equal, Claim, Holds, Demand3}
 use Rattle.model.proofs.Shown.{whole-length, begun-held, begun-shows, begun-again, get-other}
 use Rattle.model.proofs.Hop.{Over}
 use Rattle.model.proofs.Trails.{steady-on, Cut, cuts, run-suc, traced-so, Ended, ends-so, closes-so}
-use Rattle.model.proofs.OldSide.{old-over}
+use Rattle.model.proofs.Follows.{Closed, Follower, Meet}
+use Rattle.model.proofs.OldSide.{old-over, oldFollower}
 use Rattle.model.proofs.Groups.{sought, not-sought}
-use Rattle.model.proofs.NewSide.{toNew, new-over}
-use Rattle.model.proofs.Simulation.{Same, Closed}
-use Rattle.model.proofs.Comparison.{number, value, told, last-six, gaps-new, new-unspent, by-entries, by-take, old-unspent, oldTrail, old-first, gaps-old, newTrail, new-first, from-one, from-two}
-use Rattle.model.proofs.Six.{Fell, six-fell, kind-6-goes, six-lands}
+use Rattle.model.proofs.NewSide.{newFollower}
+use Rattle.model.proofs.Simulation.{Same}
+use Rattle.model.proofs.Comparison.{number, value, Verdict, alike, left-ended, right-ended, verdict, last-six, gaps-new, new-unspent, by-entries, by-take, old-unspent, gaps-old, trailFrom, first-entry, from-one, from-two}
+use Rattle.model.proofs.Six.{Fell, six-fell, kind-6-goes, six-lands, new-over}
 use Rattle.model.proofs.Walk.{places-closed, places-fit, member-made, made-member}
 use Rattle.model.proofs.Packed.{table-back, records-back}
 use Rattle.model.proofs.Accepted.{words-lt, numbers-lt, entries-aligned, Took, took}
@@ -96,13 +98,10 @@ complete c over k s u =
           (suc (i .steps), (i .last, halts-so c n v (i .steps) (live s) (i .last) (i .going) (i .halts)));
     }
 
-is-six : (e : Ending) → number e ≡ 6 → e ≡ ending 6 (value e)
-is-six (ending n v) h = ap (λ (z : ℕ). ending z v) h
-
 -- ---------------------------------------------------------------- of a walk that gave ps, and bytes that hold its table and records
 module _ (image : List ℕ) (base db : ℕ) (es : List ℕ) (cap : ℕ) (ps : List Place) (records places : List ℕ)
     (made : placesOf image base cap es ≡ table ps) (C : Closed image base ps) (few : length ps ≤ 8192)
-    (er : rowsIn places ≡ rowsOf image base ps) (ec : recordsIn records ≡ recordsOf image base ps) where
+    (er : rowsIn places ≡ rowsOf (inFull image base) ps) (ec : recordsIn records ≡ recordsOf (inFull image base) ps) where
   abbrev placed : ℕ → Type 0
   placed a = Makes image base es (plain a)
 
@@ -116,52 +115,62 @@ module _ (image : List ℕ) (base db : ℕ) (es : List ℕ) (cap : ℕ) (ps : Li
   not-in-list h n true q = absurd (n (member-made image base cap es ps made (plain h) q))
   not-in-list h n false q = refl
 
-  module _ (k : ℕ) (lk : 1 ≤ k) (x y : Start) (hy : placed (y .address)) where
+  -- both cores follow the list's places
+  abbrev F : Follower image base db (oldOver image base db)
+  F = oldFollower image base db ps C
+
+  abbrev G : Follower image base db N
+  G = newFollower image base db ps records places er ec C few
+
+  meet : Meet F G
+  meet a i j = (j, j)
+
+  module _ (k : ℕ) (lk : 1 ≤ k) (x y : Start) (hx : placed (x .address)) (hy : placed (y .address)) where
     abbrev begun : New
-    begun = toNew image base db ps records places (plain (y .address)) 0 (startMachine y)
+    begun = G .to (plain (y .address)) 0 (startMachine y)
 
     abbrev t : Trail
-    t = oldTrail image base db (stepsFor k) k (x .address) (startMachine x)
+    t = trailFrom image base db F (stepsFor k) k (x .address) (startMachine x)
 
     abbrev u : Trail
-    u = newTrail image base db ps records places er ec (stepsFor k) k (y .address) (startMachine y)
+    u = trailFrom image base db G (stepsFor k) k (y .address) (startMachine y)
 
     -- the old core begun where the new one is
     abbrev beside : Trail
-    beside = oldTrail image base db (stepsFor k) k (y .address) (startMachine y)
+    beside = trailFrom image base db F (stepsFor k) k (y .address) (startMachine y)
 
     abbrev strays : ℕ → Type 0
     strays h = Strays placed (inImage base (length image)) N k (live begun) h
 
-    alike : Same 0 beside u
-    alike =
-        from-one image base db ps records places er ec C few (stepsFor k) (stepsFor k) k (y .address) (startMachine y) (omega arith) (omega arith)
-        (in-list (y .address) hy)
+    alike-begun : Same (F .goes) (G .goes) 0 beside u
+    alike-begun =
+        from-one image base db F G meet (stepsFor k) (stepsFor k) k (y .address) (startMachine y) (omega arith) (omega arith)
+        (in-list (y .address) hy) (in-list (y .address) hy)
 
     -- where the first entries are equal
-    same : opening t ≡ opening u → Same 0 t u
+    same : opening t ≡ opening u → Verdict (F .goes) (G .goes) t u
     same e =
-        from-two image base db ps records places er ec C few (stepsFor k) (stepsFor k) k (x .address) (y .address) (startMachine x) (startMachine y)
+        verdict (F .goes) (G .goes) t u (from-two image base db F G meet (stepsFor k) (stepsFor k) k (x .address) (y .address) (startMachine x) (startMachine y)
         (omega arith) (omega arith) lk (begun-again (machine (x .registers) (x .flags) (x .area))) (begun-again (machine (y .registers) (y .flags) (y .area)))
-        (in-list (y .address) hy) e
+        (in-list (x .address) hx) (in-list (y .address) hy) e)
 
     u-unspent : Unspent u
-    u-unspent = new-unspent beside u alike
+    u-unspent = new-unspent (F .goes) (G .goes) (λ a. refl) beside u alike-begun
 
     t-unspent : Unspent t
     t-unspent = old-unspent image base db (stepsFor k) k 0 (live (old (startMachine x) (x .address) (plus (x .address) 4) false)) (omega arith)
 
     u-first : (rest : Trail) × (u ≡ at 0 (y .address) (shownOf (startMachine y)) rest)
-    u-first = new-first image base db ps records places er ec (stepsFor k) k (y .address) (startMachine y) (omega arith) lk (in-list (y .address) hy)
+    u-first = first-entry image base db G (stepsFor k) k (y .address) (startMachine y) (omega arith) lk (in-list (y .address) hy)
 
     t-first : (rest : Trail) × (t ≡ at 0 (x .address) (shownOf (startMachine x)) rest)
-    t-first = old-first image base db (stepsFor k) k (x .address) (startMachine x) (omega arith) lk
+    t-first = first-entry image base db F (stepsFor k) k (x .address) (startMachine x) (omega arith) lk (in-list (x .address) hx)
 
     -- ------------------------------------------------------------ end 6
     missed : (g : ℕ) → seek (rowsIn places) g ≡ none → placed g → ⊥
     unfolding rowsOf
     missed g n p =
-        let q : seek (rowsIn places) g ≡ some (0 + first image base ps (plain g)) = rw er (sought image base ps 0 g (in-list g p)) in
+        let q : seek (rowsIn places) g ≡ some (0 + first (inFull image base) ps (plain g)) = rw er (sought (inFull image base) ps 0 g (in-list g p)) in
         let z : _≡_ {A = ℕ} 0 1 = cc in
         omega arith
 
@@ -187,7 +196,7 @@ module _ (image : List ℕ) (base db : ℕ) (es : List ℕ) (cap : ℕ) (ps : Li
 
     not-found : (h : ℕ) → ¬ placed h → seek (rowsIn places) h ≡ none
     unfolding rowsOf
-    not-found h n = rw er (not-sought image base ps 0 h (not-in-list h n (member ps (plain h)) refl))
+    not-found h n = rw er (not-sought (inFull image base) ps 0 h (not-in-list h n (member ps (plain h)) refl))
 
     six-back : (h : ℕ) → strays h → closing u ≡ ending 6 h
     six-back h s =
@@ -201,20 +210,25 @@ module _ (image : List ℕ) (base db : ℕ) (es : List ℕ) (cap : ℕ) (ps : Li
             (six-lands records places base (length image) db m r g h b (not-found h (s .no-place)) (s .in-image)) (s .steps)
             (stepsFor k + suc (s .steps)) k 0 begun (omega arith) e (s .room)
 
+    -- equal, where nothing strayed
+    equal-so : ((h : ℕ) → ¬ strays h) → Verdict (F .goes) (G .goes) t u → Equal t u
+    equal-so nowhere (alike p q) = (p, q)
+    equal-so nowhere (left-ended a i j e p) = absurd (false≢true (sym i))
+    equal-so nowhere (right-ended a i j e p) = absurd (nowhere a (six-there a e))
+
+    six-so : Verdict (F .goes) (G .goes) t u → take (length (entries u)) (entries t) ≡ entries u
+    six-so (alike p q) = rw p (take-all (length (entries u)) (entries u) (omega arith))
+    six-so (left-ended a i j e p) = absurd (false≢true (sym i))
+    six-so (right-ended a i j e p) = p
+
     claim : Claim strays t u
     claim =
         record {
-          equal = λ none. (
-            λ p. by-entries t u (p .0),
-            λ e. told t u (same e) .equal (λ q. none (value (closing u)) (six-there (value (closing u)) (is-six (closing u) q))),
-          );
+          equal = λ none. (λ p. by-entries t u (p .0), λ e. equal-so none (same e));
           six = λ h. (six-there h, six-back h);
-          six-is-last = λ h s. last-six 0 beside u alike (ap number (six-back h s)) ∙ ap value (six-back h s);
-          six-equal = λ h s. (
-            by-take t u (entry (y .address) (shownOf (startMachine y))) (ap opening (u-first .1)),
-            λ e. told t u (same e) .six (ap number (six-back h s)),
-          );
-          new-pace = gaps-new beside u alike;
+          six-is-last = λ h s. last-six (F .goes) (G .goes) (λ a. refl) 0 beside u alike-begun (ap number (six-back h s)) ∙ ap value (six-back h s);
+          six-equal = λ h s. (by-take t u (entry (y .address) (shownOf (startMachine y))) (ap opening (u-first .1)), λ e. six-so (same e));
+          new-pace = gaps-new (F .goes) (G .goes) (λ a. refl) beside u alike-begun;
           old-pace = gaps-old image base db (stepsFor k) k (x .address) (startMachine x) (omega arith) lk;
         }
 
@@ -231,7 +245,7 @@ module _ (image : List ℕ) (base db : ℕ) (es : List ℕ) (cap : ℕ) (ps : Li
 
     new-begun : newBegin places base (length image) y ≡ live begun
     unfolding newBegun begunAt rowsOf
-    new-begun = rw (er, sought image base ps 0 (y .address) (in-list (y .address) hy), zero-add)
+    new-begun = rw (er, sought (inFull image base) ps 0 (y .address) (in-list (y .address) hy), zero-add)
 
     pub from-begin : Holds placed (inImage base (length image)) k x y (oldOver image base db) (oldBegin x) N
         (newBegin places base (length image) y)
@@ -245,8 +259,8 @@ pub record Laid (image : List ℕ) (base : ℕ) (entryList : List ℕ) (cap : �
   pub made : placesOf image base cap (numbersIn entryList) ≡ table ps
   pub closed : Closed image base ps
   pub few : length ps ≤ 8192
-  pub table-read : rowsIn places ≡ rowsOf image base ps
-  pub records-read : recordsIn records ≡ recordsOf image base ps
+  pub table-read : rowsIn places ≡ rowsOf (inFull image base) ps
+  pub records-read : recordsIn records ≡ recordsOf (inFull image base) ps
   pub places-bytes : Below 256 places
   pub records-bytes : Below 256 records
 
@@ -264,8 +278,8 @@ laid image base entryList placesLength recordsLength placeCount recordCount ib e
     let C : Closed image base (tk .ps) =
     places-closed image base (placeRoom placesLength) es (tk .ps) (entries-aligned base (length image) 0 es (numbers-lt entryList eb) (tk .good)) (tk .made) in
     let few : length (tk .ps) ≤ 8192 = omega (arith, places-fit image base (placeRoom placesLength) es (tk .ps) (tk .made)) in
-    let p : places ≡ bytesOf (tableNumbers (rowsOf image base (tk .ps))) = et ∙ ap (λ (z : Handed). take (16 * placeCount) (z .places)) eh ∙ tk .table-bytes in
-    let r : records ≡ bytesOf (recordsNumbers (recordsOf image base (tk .ps))) =
+    let p : places ≡ bytesOf (tableNumbers (rowsOf (inFull image base) (tk .ps))) = et ∙ ap (λ (z : Handed). take (16 * placeCount) (z .places)) eh ∙ tk .table-bytes in
+    let r : records ≡ bytesOf (recordsNumbers (recordsOf (inFull image base) (tk .ps))) =
     er ∙ ap (λ (z : Handed). take (12 * recordCount) (z .records)) eh ∙ tk .record-bytes in
     record {
       ps = tk .ps;
@@ -274,8 +288,8 @@ laid image base entryList placesLength recordsLength placeCount recordCount ib e
       few = few;
       table-read = ap rowsIn p ∙ table-back image base (words-lt image base ib) (tk .ps) (C .aligned) few;
       records-read = ap recordsIn r ∙ records-back image base (words-lt image base ib) (tk .ps) (C .aligned) few;
-      places-bytes = rw p (below-bytes (tableNumbers (rowsOf image base (tk .ps))));
-      records-bytes = rw r (below-bytes (recordsNumbers (recordsOf image base (tk .ps))));
+      places-bytes = rw p (below-bytes (tableNumbers (rowsOf (inFull image base) (tk .ps))));
+      records-bytes = rw r (below-bytes (recordsNumbers (recordsOf (inFull image base) (tk .ps))));
     }
 
 -- an address with a plain place is in the list that the walk found, and so is a number of 32 bits and found in the table
@@ -287,9 +301,9 @@ module _ (image : List ℕ) (base : ℕ) (entryList : List ℕ) (cap : ℕ) (pla
   pub placed-lt : a < 2 ^ 32
   placed-lt = L .closed .aligned-at (plain a) listed .2
 
-  pub finds : seek (rowsIn places) a ≡ some (0 + first image base (L .ps) (plain a))
+  pub finds : seek (rowsIn places) a ≡ some (0 + first (inFull image base) (L .ps) (plain a))
   unfolding rowsOf
-  finds = rw (L .table-read) (sought image base (L .ps) 0 a listed)
+  finds = rw (L .table-read) (sought (inFull image base) (L .ps) 0 a listed)
 
 -- so the trail that demand 3 speaks of is the one that the new core has from its begin
 pub begun-trail : (image : List ℕ) (base : ℕ) (entryList : List ℕ) (cap : ℕ) (places records : List ℕ) → Laid image base entryList cap places records
@@ -304,7 +318,7 @@ unfolding Demand3
 demand3 image base entryList placesLength recordsLength placeCount recordCount ib eb handed eh answered x y hx hy db k lk places records et er =
     let L = laid image base entryList placesLength recordsLength placeCount recordCount ib eb handed eh answered places records et er in
     from-begin image base db (numbersIn entryList) (placeRoom placesLength) (L .ps) records places (L .made) (L .closed) (L .few) (L .table-read)
-    (L .records-read) k lk x y hy
+    (L .records-read) k lk x y hx hy
 
 -- demand 2: "The places .. of an accepted image are those that 01's rules make, and all of them."
 pub all-of-them : (image : List ℕ) (base : ℕ) (entryList : List ℕ) (placesLength recordsLength placeCount recordCount : ℕ) → Below 256 entryList

@@ -10,7 +10,7 @@ use borrow.Author.Tests.{eq-eqb, ne-eqb}
 use Rattle.numbers.specs.Choice.{pick}
 use Rattle.model.specs.declared.Answer.{Answer}
 use Rattle.model.specs.declared.Answer.the-variants.{Entry, Forbidden, NoRoom, RecordsShort}
-use Rattle.model.specs.Records.{numbersIn, recordsOf}
+use Rattle.model.specs.Records.{numbersIn, inFull, recordsOf}
 use Rattle.model.specs.Walk.{Walked, table, refused, endless, placesOf}
 use Rattle.model.specs.Translation.{Handed, answerNumbers, badCount, badEntry, firstBad, placeRoom, refusal, acceptance, fromWalk, translation}
 use Rattle.model.specs.FirstBadEntry.{First, NamesFirst, FirstBadEntry}
@@ -65,9 +65,9 @@ module _ (image : List ℕ) (base : ℕ) (entries : List ℕ) (pl rl : ℕ) wher
   -- after the walk no answer is 3
   not-third : (w : Walked) → numberOf (fromWalk image base pl rl w .answer) ≡ 3 → ⊥
   unfolding fromWalk refusal acceptance answerNumbers
-  not-third (table ps) = go (leb (length (recordsOf image base ps)) (rl / 12))
+  not-third (table ps) = go (leb (length (recordsOf (inFull image base) ps)) (rl / 12))
     where
-      go : (b : Bool) → numberOf (pick b (acceptance image base pl rl ps) (refusal pl rl (RecordsShort (length (recordsOf image base ps)))) .answer) ≡ 3 → ⊥
+      go : (b : Bool) → numberOf (pick b (acceptance image base pl rl ps) (refusal pl rl (RecordsShort (length (recordsOf (inFull image base) ps)))) .answer) ≡ 3 → ⊥
       go true e = omega arith
       go false e = omega arith
   not-third (refused n a) = go (eqb n 4)

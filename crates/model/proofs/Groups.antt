@@ -13,7 +13,7 @@ use Rattle.numbers.specs.Number.{plus}
 use Rattle.model.specs.declared.Place.{Place}
 use Rattle.model.specs.declared.Place.the-variants.{Pair, Held}
 use Rattle.model.specs.Places.{plain, placeAt, kindOf, samePlace, member}
-use Rattle.model.specs.Records.{Rec, Group, one, two, group, past, numbered, put, first, rowsFrom, recordsFrom}
+use Rattle.model.specs.Records.{Rec, Group, one, two, Grouping, past, numbered, put, first, rowsFrom, recordsFrom}
 use Rattle.model.specs.NewCore.{seek}
 use Rattle.model.specs.Cores.{naming}
 use Rattle.model.proofs.Members.{same-eq, mem-cases, not-mem, no-member}
@@ -41,7 +41,7 @@ unfolding past
 beyond (one r) f = omega arith
 beyond (two r s) f = omega arith
 
-past-add : (g : Group Place) (f n : ℕ) → past g f + n ≡ f + past g n
+pub past-add : (g : Group Place) (f n : ℕ) → past g f + n ≡ f + past g n
 unfolding past
 past-add (one r) f n = omega arith
 past-add (two r s) f n = omega arith
@@ -66,80 +66,85 @@ row-test (Pair p n) a = go (eqb p a) (eqb n (plus p 4)) refl refl
     go false v i j = rw i (and-false (eqb (pick v 0 1) 0))
 row-test (Held p) a = refl
 
-module _ (image : List ℕ) (base : ℕ) where
+-- the places after x in a list
+unfoldable pub behind : List Place → Place → List Place
+behind [] x = []
+behind (y ∷ ys) x = pick (samePlace y x) ys (behind ys x)
+
+module _ (lay : Grouping) where
   -- the records of a place stand at its first record
   pub stands : (φ : Place → ℕ) (ps : List Place) (x : Place) → member ps x ≡ true
-      → Stands φ (recordsFrom image base φ ps) (first image base ps x) (group image base x)
-  unfolding recordsFrom first
+      → Stands φ (recordsFrom lay φ ps) (first lay ps x) (lay x (behind ps x))
+  unfolding recordsFrom first behind
   stands φ [] x h = no-member x h
   stands φ (y ∷ ys) x h =
       mem-cases y ys x h
-      (λ e. rw e (subst (λ (z : Place). Stands φ (put φ (group image base y) (recordsFrom image base φ ys)) 0 (group image base z)) (same-eq y x e)
-      (stands-here φ (group image base y) (recordsFrom image base φ ys))))
-      (λ e i. rw e (stands-on φ (group image base y) (group image base x) (recordsFrom image base φ ys) (first image base ys x) (stands φ ys x i)))
+      (λ e. rw e (subst (λ (z : Place). Stands φ (put φ (lay y ys) (recordsFrom lay φ ys)) 0 (lay z ys)) (same-eq y x e)
+      (stands-here φ (lay y ys) (recordsFrom lay φ ys))))
+      (λ e i. rw e (stands-on φ (lay y ys) (lay x (behind ys x)) (recordsFrom lay φ ys) (first lay ys x) (stands φ ys x i)))
 
   -- -------------------------------------------------------------- the rows name each first record, and no second
-  below : (ps : List Place) (f r : ℕ) → r < f → naming (rowsFrom image base f ps) r ≡ none
+  below : (ps : List Place) (f r : ℕ) → r < f → naming (rowsFrom lay f ps) r ≡ none
   unfolding rowsFrom naming
   below [] f r h = refl
   below (y ∷ ys) f r h =
-      rw (ne-eqb f r (λ e. omega arith)) (below ys (past (group image base y) f) r (omega (arith, beyond (group image base y) f)))
+      rw (ne-eqb f r (λ e. omega arith)) (below ys (past (lay y ys) f) r (omega (arith, beyond (lay y ys) f)))
 
   pub named : (ps : List Place) (f : ℕ) (x : Place) → member ps x ≡ true
-      → naming (rowsFrom image base f ps) (f + first image base ps x) ≡ some (placeAt x)
+      → naming (rowsFrom lay f ps) (f + first lay ps x) ≡ some (placeAt x)
   unfolding rowsFrom naming first
   named [] f x h = no-member x h
   named (y ∷ ys) f x h =
       mem-cases y ys x h (λ e. rw (e, eq-eqb f (f + 0) (omega arith)) (ap (λ (z : Place). some (placeAt z)) (same-eq y x e)))
-      (λ e i. let g = group image base y in let n = first image base ys x in
+      (λ e i. let g = lay y ys in let n = first lay ys x in
       rw (e, ne-eqb f (f + past g n) (λ q. omega (arith, beyond g n)), ← past-add g f n) (named ys (past g f) x i))
 
   -- no row names the second record of a group that starts at record f + n, the rows being counted from f
   abbrev pub Second : ℕ → ℕ → Group Place → List Place → Type 0
   Second f n (one r) ps = Unit {0}
-  Second f n (two r s) ps = naming (rowsFrom image base f ps) (suc (f + n)) ≡ none
+  Second f n (two r s) ps = naming (rowsFrom lay f ps) (suc (f + n)) ≡ none
 
-  second-here : (g : Group Place) (y : Place) (ys : List Place) (f : ℕ) → group image base y ≡ g → Second f 0 g (y ∷ ys)
+  second-here : (g : Group Place) (y : Place) (ys : List Place) (f : ℕ) → lay y ys ≡ g → Second f 0 g (y ∷ ys)
   unfolding rowsFrom naming past
   second-here (one r) y ys f e = tt
   second-here (two r s) y ys f e = rw (ne-eqb f (suc (f + 0)) (λ q. omega arith), e) (below ys (suc (suc f)) (suc (f + 0)) (omega arith))
 
-  second-on : (g : Group Place) (y : Place) (ys : List Place) (f n : ℕ) → Second (past (group image base y) f) n g ys
-      → Second f (past (group image base y) n) g (y ∷ ys)
+  second-on : (g : Group Place) (y : Place) (ys : List Place) (f n : ℕ) → Second (past (lay y ys) f) n g ys
+      → Second f (past (lay y ys) n) g (y ∷ ys)
   unfolding rowsFrom naming
   second-on (one r) y ys f n h = tt
   second-on (two r s) y ys f n h =
-      rw (ne-eqb f (suc (f + past (group image base y) n)) (λ q. omega arith), ← past-add (group image base y) f n) h
+      rw (ne-eqb f (suc (f + past (lay y ys) n)) (λ q. omega arith), ← past-add (lay y ys) f n) h
 
-  pub unnamed : (ps : List Place) (f : ℕ) (x : Place) → member ps x ≡ true → Second f (first image base ps x) (group image base x) ps
-  unfolding first
+  pub unnamed : (ps : List Place) (f : ℕ) (x : Place) → member ps x ≡ true → Second f (first lay ps x) (lay x (behind ps x)) ps
+  unfolding first behind
   unnamed [] f x h = no-member x h
   unnamed (y ∷ ys) f x h =
       mem-cases y ys x h
-      (λ e. rw e (subst (λ (z : Place). Second f 0 (group image base z) (y ∷ ys)) (same-eq y x e) (second-here (group image base y) y ys f refl)))
-      (λ e i. rw e (second-on (group image base x) y ys f (first image base ys x) (unnamed ys (past (group image base y) f) x i)))
+      (λ e. rw e (subst (λ (z : Place). Second f 0 (lay z ys) (y ∷ ys)) (same-eq y x e) (second-here (lay y ys) y ys f refl)))
+      (λ e i. rw e (second-on (lay x (behind ys x)) y ys f (first lay ys x) (unnamed ys (past (lay y ys) f) x i)))
 
   -- -------------------------------------------------------------- kind 6 finds the plain place where there is one
-  pub sought : (ps : List Place) (f a : ℕ) → member ps (plain a) ≡ true → seek (rowsFrom image base f ps) a ≡ some (f + first image base ps (plain a))
+  pub sought : (ps : List Place) (f a : ℕ) → member ps (plain a) ≡ true → seek (rowsFrom lay f ps) a ≡ some (f + first lay ps (plain a))
   unfolding rowsFrom seek first
   sought [] f a h = no-member (plain a) h
   sought (y ∷ ys) f a h =
       mem-cases y ys (plain a) h (λ e. rw (row-test y a, e) (ap some (omega arith)))
-      (λ e i. rw (row-test y a, e, ← past-add (group image base y) f (first image base ys (plain a))) (sought ys (past (group image base y) f) a i))
+      (λ e i. rw (row-test y a, e, ← past-add (lay y ys) f (first lay ys (plain a))) (sought ys (past (lay y ys) f) a i))
 
-  pub not-sought : (ps : List Place) (f a : ℕ) → member ps (plain a) ≡ false → seek (rowsFrom image base f ps) a ≡ none
+  pub not-sought : (ps : List Place) (f a : ℕ) → member ps (plain a) ≡ false → seek (rowsFrom lay f ps) a ≡ none
   unfolding rowsFrom seek
   not-sought [] f a h = refl
   not-sought (y ∷ ys) f a h =
       let t = not-mem y ys (plain a) h in
-      rw (row-test y a, t .0) (not-sought ys (past (group image base y) f) a (t .1))
+      rw (row-test y a, t .0) (not-sought ys (past (lay y ys) f) a (t .1))
 
   -- -------------------------------------------------------------- how far the records reach
-  pub first-le : (ps : List Place) (x : Place) → first image base ps x ≤ 2 * length ps
+  pub first-le : (ps : List Place) (x : Place) → first lay ps x ≤ 2 * length ps
   unfolding first
   first-le [] x = omega arith
   first-le (y ∷ ys) x = go (samePlace y x) (first-le ys x)
     where
-      go : (b : Bool) → first image base ys x ≤ 2 * length ys → pick b 0 (past (group image base y) (first image base ys x)) ≤ 2 * suc (length ys)
+      go : (b : Bool) → first lay ys x ≤ 2 * length ys → pick b 0 (past (lay y ys) (first lay ys x)) ≤ 2 * suc (length ys)
       go true h = omega arith
-      go false h = omega (arith, past-le (group image base y) (first image base ys x))
+      go false h = omega (arith, past-le (lay y ys) (first lay ys x))

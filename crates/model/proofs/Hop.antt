@@ -4,7 +4,7 @@ use mathlib.Core.Path.{_≡_, refl}
 use mathlib.Core.Option.{Option, none, some}
 use native.Mathlib.Omega.{arith}
 use Rattle.machine.specs.Ends.{Ending, ending, Next, go, halt, state, live, settle}
-use Rattle.machine.specs.Effect.{Machine}
+use Rattle.effects.specs.Effect.{Machine}
 use Rattle.model.specs.Run.{step}
 use Rattle.model.specs.Trails.{Core, Trail, shut, at, closes, trail}
 

@@ -13,11 +13,11 @@ use Rattle.numbers.specs.Number.{Below, plus, numberAt}
 use Rattle.numbers.proofs.Bounds.{plus-lt}
 use Rattle.words.specs.Conditions.{bitOf}
 use Rattle.machine.specs.Ends.{Ending, ending, go, State, live}
-use Rattle.machine.specs.Effect.{Machine}
+use Rattle.effects.specs.Effect.{Machine}
 use Rattle.model.specs.Run.{dataOf}
 use Rattle.model.specs.OldCore.{Old, old, inImage, oldNext, oldBegun}
 use Rattle.model.specs.Places.{plain}
-use Rattle.model.specs.Records.{first, rowsIn}
+use Rattle.model.specs.Records.{inFull, first, rowsIn}
 use Rattle.model.specs.NewCore.{New, new, newNext, seek, begunAt, newBegun}
 use Rattle.model.specs.declared.Answer.{Answer}
 use Rattle.model.specs.declared.Answer.the-variants.{Accepted, ImageLength, Base, Entry, Forbidden, NoRoom, RecordsShort}
@@ -202,7 +202,7 @@ module _ (image : List ℕ) (base : ℕ) (entryList : List ℕ) (cap : ℕ) (pla
     related = new-related records places base size db (L .records-bytes) (L .places-bytes) (c .area)
 
     abbrev f : ℕ
-    f = 0 + first image base (L .ps) (plain q)
+    f = 0 + first (inFull image base) (L .ps) (plain q)
 
     found : seek (rowsIn places) q ≡ some f
     found = finds image base entryList cap places records L q hq

@@ -14,9 +14,9 @@ use Rattle.words.specs.Reader.{instructionOf}
 use Rattle.words.specs.declared.Instruction.{Instruction}
 use Rattle.machine.specs.Ends.{Ending, ending, Next, go, halt}
 use Rattle.machine.specs.Registers.{putRegister, addressOf}
-use Rattle.machine.specs.Effect.{Machine, withRegisters, effectOf}
+use Rattle.effects.specs.Effect.{Machine, withRegisters, effectOf}
 use Rattle.machine.proofs.Ends.{RunEnd, EndsWell}
-use Rattle.machine.proofs.Effects.{effects-end}
+use Rattle.effects.proofs.Effects.{effects-end}
 use Rattle.model.specs.declared.Place.{Place}
 use Rattle.model.specs.declared.Place.the-variants.{Pair, Held}
 use Rattle.model.specs.OldCore.{wordIn, Transfer, illegal, straight, trap, call, bicc, jmpl, transferOf, target}

@@ -1,36 +1,35 @@
 -- The new core does what the place does, where it is given the table and records of a closed list: one record from entry to entry, or two.
-use Prim.Native.Nat.{ℕ, zero, suc, _%_, _^_, _<_}
+use Prim.Native.Nat.{ℕ, suc, _%_, _^_, _≤_, _<_}
 use native.Mathlib.Nat.{zero-add}
 use native.Mathlib.Omega.{arith}
-use mathlib.Core.Path.{_≡_, refl, ap, _∙_}
-use mathlib.Core.Bool.{Bool, true, false, _||_, false≢true}
+use mathlib.Core.Path.{_≡_, refl, ap, _∙_, subst}
+use mathlib.Core.Bool.{Bool, true, false, false≢true}
 use mathlib.Core.List.{List}
 use mathlib.Core.Option.{Option, none, some}
 use lib.Dec.{eqb, leb}
 use lib.ListN.{getElem?, length}
 use Rattle.numbers.specs.Choice.{pick}
-use Rattle.numbers.proofs.Choice.{either}
 use Rattle.numbers.specs.Number.{plus}
 use Rattle.words.specs.Conditions.{holdsOf}
 use Rattle.words.specs.Reader.{instructionOf}
 use Rattle.machine.specs.Ends.{Ending, ending, Next, go, halt, within}
 use Rattle.machine.specs.Registers.{addressOf}
-use Rattle.machine.specs.Effect.{Machine, effectOf}
-use Rattle.machine.proofs.Ends.{EndsWell}
-use Rattle.machine.proofs.Effects.{effects-end}
+use Rattle.effects.specs.Effect.{Machine, effectOf}
 use Rattle.model.specs.declared.Place.{Place}
 use Rattle.model.specs.declared.Place.the-variants.{Pair, Held}
 use Rattle.model.specs.OldCore.{inImage, wordIn, Transfer, illegal, straight, trap, call, bicc, jmpl, transferOf, target}
 use Rattle.model.specs.Places.{plain, placeAt, member, Which, never, always, depends, whichOf, idleBicc, mayBeHeld, mayBeHeldAt, allowed}
-use Rattle.model.specs.Records.{Rec, doWord, link, hold, goIf, goTo, goHeld, stop, unknown, Group, one, two, biccGroup, groupOf, heldGroupOf, groupAt, heldGroupAt, group, numbered, first, rowsOf, recordsOf, rowsIn, recordsIn}
+use Rattle.model.specs.Records.{Rec, doWord, link, hold, goIf, goTo, goHeld, stop, Group, one, two, biccGroup, groupOf, heldGroupOf, groupAt, heldGroupAt, group, numbered, inFull, first, rowsOf, recordsOf, rowsIn, recordsIn}
 use Rattle.model.specs.NewCore.{New, new, following, fit, doesWord, holds, chooses, seek, lost, goes, stops, does, newNext}
 use Rattle.model.specs.Trails.{Core}
 use Rattle.model.specs.Cores.{shownOf, naming, newMark, newShown, goesBy, newByHeld, newOver}
 use Rattle.words.specs.declared.Operand.{Operand}
 use Rattle.model.proofs.Transfers.{trapEnd, trap-halts, idle-does, small-condition}
-use Rattle.model.proofs.Hop.{Left, onward, ends, leaves, left, Hop, once, twice, Over}
+use Rattle.model.proofs.Hop.{Left, onward, ends, lands, leaves, left, Hop, once, twice}
 use Rattle.model.proofs.Middle.{Out, on, over, by, Reads, reads, linked, outOf, jumpOut, branchOut, biccOut, heldOut, doOut, doHeld, outAt, heldAt, out}
-use Rattle.model.proofs.Groups.{Stands, stands, Second, unnamed, named}
+use Rattle.model.proofs.Follows.{Closed, leftBy, Follower}
+use Rattle.model.proofs.Six.{new-over}
+use Rattle.model.proofs.Groups.{Stands, stands, Second, unnamed, named, sought, not-sought, first-le}
 
 -- opens what the records of a group do
 new-open : Unit {0}
@@ -42,7 +41,7 @@ module _ (image : List ℕ) (base db : ℕ) (ps : List Place) (records places : 
   newCore = newOver records places base (length image) db
 
   abbrev φ : Place → ℕ
-  φ = first image base ps
+  φ = first (inFull image base) ps
 
   -- what the record y does
   abbrev D : Rec ℕ → Machine → ℕ → ℕ → Next New
@@ -172,15 +171,15 @@ module _ (image : List ℕ) (base db : ℕ) (ps : List Place) (records places : 
     new-held-at (some w) ok s = new-held-do (transferOf (instructionOf w)) w refl ok s
 
   -- ---------------------------------------------------------------- of the table and the records that the places make
-  module _ (er : rowsIn places ≡ rowsOf image base ps) (ec : recordsIn records ≡ recordsOf image base ps) where
-    joined : (g : Group Place) (f : ℕ) → Stands φ (recordsOf image base ps) f g → Second image base 0 f g ps → Here f g
+  module _ (er : rowsIn places ≡ rowsOf (inFull image base) ps) (ec : recordsIn records ≡ recordsOf (inFull image base) ps) where
+    joined : (g : Group Place) (f : ℕ) → Stands φ (recordsOf (inFull image base) ps) f g → Second (inFull image base) 0 f g ps → Here f g
     unfolding rowsOf
     joined (one r) f a b = rw ec a
     joined (two r s) f a b = (rw ec (a .0), rw ec (a .1), rw er (rw zero-add at b))
 
     here : (x : Place) → member ps x ≡ true → Here (φ x) (group image base x)
     unfolding recordsOf
-    here x h = joined (group image base x) (φ x) (stands image base φ ps x h) (unnamed image base ps 0 x h)
+    here x h = joined (group image base x) (φ x) (stands (inFull image base) φ ps x h) (unnamed (inFull image base) ps 0 x h)
 
     pub new-hop : (pl : Place) (h : ℕ) (m : Machine) → suc (φ pl) < 2 ^ 32 → member ps pl ≡ true → allowed image base pl ≡ true
         → Hop newCore (toNew pl h m) (newOut (out image base db pl h m))
@@ -190,68 +189,59 @@ module _ (image : List ℕ) (base db : ℕ) (ps : List Place) (records places : 
 
     pub new-mark : (pl : Place) (h : ℕ) (m : Machine) → member ps pl ≡ true → newCore .mark (toNew pl h m) ≡ some (placeAt pl)
     unfolding newMark rowsOf
-    new-mark pl h m i = rw er (rw zero-add at (named image base ps 0 pl i))
+    new-mark pl h m i = rw er (rw zero-add at (named (inFull image base) ps 0 pl i))
 
--- ------------------------------------------------------------------ over any table and records, the new core ends only with an end above 0
-module _ (records places : List ℕ) (base size db : ℕ) where
-  abbrev OverNew : Next New → Type 0
-  OverNew = Over (newOver records places base size db)
+-- ------------------------------------------------------------------ so it follows the places of the list, and goes on where that has a plain place
+module _ (image : List ℕ) (base db : ℕ) (ps : List Place) (records places : List ℕ) (er : rowsIn places ≡ rowsOf (inFull image base) ps)
+    (ec : recordsIn records ≡ recordsOf (inFull image base) ps) (C : Closed image base ps) (few : length ps ≤ 8192) where
+  abbrev pub listed : ℕ → Bool
+  listed a = member ps (plain a)
 
-  module _ (m : Machine) (r h : ℕ) where
-    over-effect : (x : Next Machine) → EndsWell x → OverNew (within (following r h) x)
-    unfolding within
-    over-effect (go m′) e = tt
-    over-effect (halt (ending z v)) e = e .0
+  abbrev pub to : Place → ℕ → Machine → New
+  to = toNew image base db ps records places
 
-    over-word : (w : ℕ) → OverNew (doesWord db w m r h)
-    unfolding doesWord
-    over-word w =
-        either OverNew (fit (transferOf (instructionOf w))) (within (following r h) (effectOf db (instructionOf w) m)) (halt (ending 7 r))
-        (over-effect (effectOf db (instructionOf w) m) (effects-end db (instructionOf w) m)) (omega arith)
+  new-left : (o : Out) → newOut image base db ps records places o ≡ leftBy image base db to listed o
+  unfolding goes rowsOf
+  new-left (on pl h m) = refl
+  new-left (over e) = refl
+  new-left (by a m) = split (member ps (plain a)) refl
+    where
+      split : (b : Bool) → member ps (plain a) ≡ b
+          → newOut image base db ps records places (by a m)
+          ≡ pick b (onward (to (plain a) a m)) (lands a (shownOf m) (lost (inImage base (length image) a) a))
+      split true e = rw (er, sought (inFull image base) ps 0 a e, zero-add)
+      split false e = rw (er, not-sought (inFull image base) ps 0 a e)
 
-    over-hold : (t : Transfer) (p : ℕ) → OverNew (holds t p m r)
-    unfolding holds
-    over-hold illegal p = omega arith
-    over-hold straight p = omega arith
-    over-hold trap p = omega arith
-    over-hold (call disp) p = omega arith
-    over-hold (bicc cond annul disp) p = omega arith
-    over-hold (jmpl rd rs1 x) p =
-        either OverNew (eqb (addressOf (m .registers) rs1 x % 4) 0) (go (following r (addressOf (m .registers) rs1 x) (linked m rd p)))
-        (halt (ending 4 (addressOf (m .registers) rs1 x))) tt (omega arith)
+  hop : (pl : Place) (h : ℕ) (m : Machine) → member ps pl ≡ true
+      → Hop (newCore image base db ps records places) (to pl h m) (newOut image base db ps records places (out image base db pl h m))
+  hop pl h m i = new-hop image base db ps records places er ec pl h m (omega (arith, first-le (inFull image base) ps pl)) i (C .ok pl i)
 
-    over-choose : (cond to : ℕ) → OverNew (chooses cond to m r h)
-    unfolding chooses
-    over-choose cond to =
-        either OverNew (leb cond 15) (go (pick (holdsOf cond (m .flags)) (new m to h) (following r h m))) (halt (ending 7 r)) tt (omega arith)
+  pub new-hops : (pl : Place) (h : ℕ) (m : Machine) → member ps pl ≡ true
+      → Hop (newCore image base db ps records places) (to pl h m) (leftBy image base db to listed (out image base db pl h m))
+  new-hops pl h m i = subst (Hop (newCore image base db ps records places) (to pl h m)) (new-left (out image base db pl h m)) (hop pl h m i)
 
-    over-lost : (b : Bool) → OverNew (halt (lost b h))
-    unfolding lost
-    over-lost true = omega arith
-    over-lost false = omega arith
+  pub new-shown : (pl : Place) (h : ℕ) (m : Machine) → newCore image base db ps records places .shown (to pl h m) ≡ shownOf m
+  unfolding newShown
+  new-shown pl h m = refl
 
-    over-seek : (o : Option ℕ) (b : Bool) → OverNew (goes o b m h)
-    unfolding goes
-    over-seek (some f) b = tt
-    over-seek none b = over-lost b
+  pub new-mark-plain : (a h : ℕ) (m : Machine) → listed a ≡ true → newCore image base db ps records places .mark (to (plain a) h m) ≡ some a
+  unfolding placeAt
+  new-mark-plain a h m q = new-mark image base db ps records places er ec (plain a) h m q
 
-    over-stop : (e p : ℕ) (b : Bool) → eqb e 2 || eqb e 3 ≡ b → OverNew (pick b (halt (ending e p)) (halt (ending 7 r)))
-    over-stop e p false q = omega arith
-    over-stop zero p true q = absurd (false≢true q)
-    over-stop (suc e) p true q = omega arith
+  pub new-ends : (a : ℕ) (m : Machine) → listed a ≡ true → wordIn image base a ≡ none → Hop (newCore image base db ps records places) (to (plain a) a m) (ends (ending 2 a))
+  new-ends a m q e = rw e at (hop (plain a) a m q)
 
-    over-do : (o : Option (Rec ℕ)) → OverNew (does (rowsIn places) base size db o m r h)
-    unfolding does stops
-    over-do none = omega arith
-    over-do (some (doWord w)) = over-word w
-    over-do (some (link p)) = tt
-    over-do (some (hold w p)) = over-hold (transferOf (instructionOf w)) p
-    over-do (some (goIf cond to)) = over-choose cond to
-    over-do (some (goTo to)) = tt
-    over-do (some goHeld) = over-seek (seek (rowsIn places) h) (inImage base size h)
-    over-do (some (stop e p)) = over-stop e p (eqb e 2 || eqb e 3) refl
-    over-do (some unknown) = omega arith
-
-  pub new-over : (s : New) → Over (newOver records places base size db) (newOver records places base size db .next s)
-  unfolding newNext
-  new-over (new m r h) = over-do m r h (getElem? (recordsIn records) r)
+  abbrev pub newFollower : Follower image base db (newCore image base db ps records places)
+  newFollower =
+      record {
+        ps = ps;
+        to = to;
+        goes = listed;
+        closed = C;
+        over = new-over records places base (length image) db;
+        shows = new-shown;
+        marks = new-mark image base db ps records places er ec;
+        hops = new-hops;
+        marks-on = λ a m q. new-mark-plain a a m q;
+        ends-on = λ a m q al e. new-ends a m q e;
+      }

@@ -1,5 +1,5 @@
 -- The old core does what the place does: one step from entry to entry, or two where a word is annulled.
-use Prim.Native.Nat.{ℕ, _%_, _^_, _<_}
+use Prim.Native.Nat.{ℕ, _%_}
 use mathlib.Core.Path.{_≡_, refl, ap, _∙_}
 use mathlib.Core.Bool.{Bool, true, false, false≢true}
 use mathlib.Core.List.{List}
@@ -14,9 +14,9 @@ use Rattle.words.specs.Reader.{instructionOf}
 use Rattle.words.specs.declared.Instruction.{Instruction}
 use Rattle.machine.specs.Ends.{ending, Next, go, halt, within}
 use Rattle.machine.specs.Registers.{addressOf}
-use Rattle.machine.specs.Effect.{Machine, effectOf}
+use Rattle.effects.specs.Effect.{Machine, effectOf}
 use Rattle.machine.proofs.Ends.{EndsWell}
-use Rattle.machine.proofs.Effects.{effects-end}
+use Rattle.effects.proofs.Effects.{effects-end}
 use Rattle.model.specs.declared.Place.{Place}
 use Rattle.model.specs.declared.Place.the-variants.{Pair, Held}
 use Rattle.model.specs.OldCore.{Old, old, wordIn, Transfer, illegal, straight, trap, call, bicc, jmpl, transferOf, target, follows, branches, jumps, executes, fetches, oldNext}
@@ -24,12 +24,8 @@ use Rattle.model.specs.Places.{plain, placeAt, Which, never, always, dep
 use Rattle.model.specs.Cores.{shownOf, oldMark, oldShown, oldOver}
 use Rattle.model.proofs.Transfers.{holds-never, holds-always, trap-halts}
 use Rattle.model.proofs.Hop.{Left, onward, ends, leaves, left, Hop, once, twice, Over}
+use Rattle.model.proofs.Follows.{Aligned, Closed, leftBy, Follower}
 use Rattle.model.proofs.Middle.{Out, on, over, by, Reads, reads, linked, outOf, jumpOut, branchOut, biccOut, heldOut, doOut, doHeld, outAt, heldAt, out}
-
--- addresses of a place: multiples of 4 of 32 bits
-abbrev pub Aligned : Place → Type 0
-Aligned (Pair p n) = (p % 4 ≡ 0) × (n % 4 ≡ 0) × (p < 2 ^ 32) × (n < 2 ^ 32)
-Aligned (Held p) = (p % 4 ≡ 0) × (p < 2 ^ 32)
 
 -- opens what the old core does to control
 old-open : Unit {0}
@@ -40,14 +36,13 @@ abbrev pub toOld : Place → ℕ → Machine → Old
 toOld (Pair p n) h m = old m p n false
 toOld (Held p) h m = old m p h false
 
-abbrev pub oldOut : Out → Left Old
-oldOut (on pl h m) = onward (toOld pl h m)
-oldOut (over e) = ends e
-oldOut (by a m) = onward (toOld (plain a) a m)
-
 module _ (image : List ℕ) (base db : ℕ) where
   abbrev O : Old → Left Old → Type 0
   O = Hop (oldOver image base db)
+
+  -- it goes on at every held address
+  abbrev oldOut : Out → Left Old
+  oldOut = leftBy image base db toOld (λ a. true)
 
   abbrev N : Old → Next Old
   N = oldNext image base db
@@ -176,3 +171,27 @@ module _ (image : List ℕ) (base db : ℕ) where
   old-over (old m p n true) = tt
   old-over (old m p n false) =
       either OverOld (eqb (p % 4) 0) (fetches db (wordIn image base p) m p n) (halt (ending 4 p)) (over-at (wordIn image base p) m p n) (omega arith)
+
+  -- -------------------------------------------------------------- so it follows the places of any closed list, and goes on at every address
+  pub old-ends : (a : ℕ) (m : Machine) → a % 4 ≡ 0 → wordIn image base a ≡ none → Hop (oldOver image base db) (toOld (plain a) a m) (ends (ending 2 a))
+  unfolding old-open
+  old-ends a m al e = old-at (old m a (plus a 4) false) a (plus a 4) a m none (rw (al, e))
+
+  pub old-mark-plain : (a h : ℕ) (m : Machine) → oldOver image base db .mark (toOld (plain a) h m) ≡ some a
+  unfolding oldMark
+  old-mark-plain a h m = refl
+
+  abbrev pub oldFollower : (ps : List Place) → Closed image base ps → Follower image base db (oldOver image base db)
+  oldFollower ps C =
+      record {
+        ps = ps;
+        to = toOld;
+        goes = λ a. true;
+        closed = C;
+        over = old-over;
+        shows = old-shown;
+        marks = λ pl h m i. old-mark pl h m;
+        hops = λ pl h m i. old-hop pl h m (C .aligned-at pl i) (C .ok pl i);
+        marks-on = λ a m q. old-mark-plain a a m;
+        ends-on = λ a m q. old-ends a m;
+      }

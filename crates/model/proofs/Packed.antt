@@ -17,9 +17,9 @@ use Rattle.model.specs.declared.Place.{Place}
 use Rattle.model.specs.declared.Place.the-variants.{Pair, Held}
 use Rattle.model.specs.OldCore.{wordIn, Transfer, illegal, straight, trap, call, bicc, jmpl, transferOf, target}
 use Rattle.model.specs.Places.{plain, placeAt, nextOf, kindOf, Which, never, always, depends, whichOf}
-use Rattle.model.specs.Records.{Rec, doWord, link, hold, goIf, goTo, goHeld, stop, unknown, Group, one, two, biccGroup, groupOf, heldGroupOf, groupAt, heldGroupAt, group, past, numbered, put, Row, row, first, rowsFrom, recordsFrom, rowsOf, recordsOf, tableNumbers, recordNumbers, recordsNumbers, rowAt, rowsIn, recordOf, recordAt, recordsIn}
+use Rattle.model.specs.Records.{Rec, doWord, link, hold, goIf, goTo, goHeld, stop, unknown, Group, one, two, biccGroup, groupOf, heldGroupOf, groupAt, heldGroupAt, group, past, numbered, put, Row, row, inFull, first, rowsFrom, recordsFrom, rowsOf, recordsOf, tableNumbers, recordNumbers, recordsNumbers, rowAt, rowsIn, recordOf, recordAt, recordsIn}
 use Rattle.model.proofs.Members.{AllP}
-use Rattle.model.proofs.OldSide.{Aligned}
+use Rattle.model.proofs.Follows.{Aligned}
 use Rattle.model.proofs.Transfers.{small-condition}
 use Rattle.model.proofs.Groups.{past-le, first-le}
 
@@ -171,7 +171,7 @@ at-lt (Pair p n) a = omega arith
 at-lt (Held p) a = omega arith
 
 module _ (image : List ℕ) (base : ℕ) (words : (p w : ℕ) → wordIn image base p ≡ some w → w < 2 ^ 32) where
-  rows-lt : (f : ℕ) (ps : List Place) → AllP Aligned ps → f + 2 * length ps < 2 ^ 32 → Below (2 ^ 32) (tableNumbers (rowsFrom image base f ps))
+  rows-lt : (f : ℕ) (ps : List Place) → AllP Aligned ps → f + 2 * length ps < 2 ^ 32 → Below (2 ^ 32) (tableNumbers (rowsFrom (inFull image base) f ps))
   unfolding tableNumbers rowsFrom
   rows-lt f [] a h = tt
   rows-lt f (y ∷ ys) a h =
@@ -231,18 +231,18 @@ module _ (image : List ℕ) (base : ℕ) (words : (p w : ℕ) → wordIn image b
     put-lt (two r s) rest h l =
         record-lt (numbered φ r) (recordNumbers (numbered φ s) (recordsNumbers rest)) (h .0) (record-lt (numbered φ s) (recordsNumbers rest) (h .1) l)
 
-    records-lt : (ps : List Place) → AllP Aligned ps → Below (2 ^ 32) (recordsNumbers (recordsFrom image base φ ps))
+    records-lt : (ps : List Place) → AllP Aligned ps → Below (2 ^ 32) (recordsNumbers (recordsFrom (inFull image base) φ ps))
     unfolding recordsFrom recordsNumbers
     records-lt [] a = tt
-    records-lt (y ∷ ys) a = put-lt (group image base y) (recordsFrom image base φ ys) (group-lt y (a .0)) (records-lt ys (a .1))
+    records-lt (y ∷ ys) a = put-lt (group image base y) (recordsFrom (inFull image base) φ ys) (group-lt y (a .0)) (records-lt ys (a .1))
 
-  pub table-back : (ps : List Place) → AllP Aligned ps → length ps ≤ 8192 → rowsIn (bytesOf (tableNumbers (rowsOf image base ps))) ≡ rowsOf image base ps
+  pub table-back : (ps : List Place) → AllP Aligned ps → length ps ≤ 8192 → rowsIn (bytesOf (tableNumbers (rowsOf (inFull image base) ps))) ≡ rowsOf (inFull image base) ps
   unfolding rowsOf
-  table-back ps a h = rows-packed (rowsFrom image base 0 ps) (rows-lt 0 ps a (omega arith))
+  table-back ps a h = rows-packed (rowsFrom (inFull image base) 0 ps) (rows-lt 0 ps a (omega arith))
 
   pub records-back : (ps : List Place) → AllP Aligned ps → length ps ≤ 8192
-      → recordsIn (bytesOf (recordsNumbers (recordsOf image base ps))) ≡ recordsOf image base ps
+      → recordsIn (bytesOf (recordsNumbers (recordsOf (inFull image base) ps))) ≡ recordsOf (inFull image base) ps
   unfolding recordsOf
   records-back ps a h =
-      records-packed (recordsFrom image base (first image base ps) ps)
-      (records-lt (first image base ps) (λ z. omega (arith, first-le image base ps z)) ps a)
+      records-packed (recordsFrom (inFull image base) (first (inFull image base) ps) ps)
+      (records-lt (first (inFull image base) ps) (λ z. omega (arith, first-le (inFull image base) ps z)) ps a)

@@ -6,7 +6,7 @@ use mathlib.Core.Logic.{_↔_}
 use mathlib.Core.Bool.{Bool}
 use mathlib.Core.Option.{Option, none, some}
 use Rattle.machine.specs.Ends.{ending, Next, go, halt, State, state, live, settle}
-use Rattle.machine.specs.Effect.{Machine}
+use Rattle.effects.specs.Effect.{Machine}
 use Rattle.model.specs.Run.{step, run}
 use Rattle.model.specs.Trails.{Core, Trail, at, turn, trail, oneIf, counted, stood}
 use Rattle.model.specs.Cores.{Start, trailOf}

@@ -15,14 +15,13 @@ use Rattle.numbers.proofs.Bounds.{below-append, below-set, below-take, below-dr
 use Rattle.words.specs.Conditions.{bitOf}
 use Rattle.machine.specs.Ends.{ending, endingFrom}
 use Rattle.machine.specs.Registers.{fileSize}
-use Rattle.machine.specs.Windows.{laid}
-use Rattle.machine.specs.Effect.{Machine, machine}
-use Rattle.machine.proofs.Bounds.{Sound, SoundEnd, held}
-use Rattle.machine.proofs.Ring.{laid-low, laid-length, laid-below, shown-in, in-below, held-in}
+use Rattle.windows.specs.Windows.{laid}
+use Rattle.effects.specs.Effect.{Machine, machine}
+use Rattle.effects.proofs.Bounds.{Sound, SoundEnd, held}
+use Rattle.windows.proofs.Ring.{laid-low, laid-length, laid-below, shown-in, in-below, held-in}
 use Rattle.machine.proofs.Zero.{Zero, set-zero}
 use Rattle.model.specs.Run.{zeroed, dataOf, beyond}
-use Rattle.model.specs.OldState.{isSet}
-use Rattle.model.specs.StateBytes.{fileIn, machineIn, stateNumbers}
+use Rattle.model.specs.StateBytes.{isSet, fileIn, machineIn, stateNumbers}
 
 -- ---------------------------------------------------------------- the data of a lent area
 -- a part as long as the data, with what lies beyond it, has that data and that rest

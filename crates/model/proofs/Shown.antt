@@ -10,10 +10,10 @@ use lib.Seq.{take-all, take-take}
 use Rattle.numbers.specs.Number.{upTo}
 use Rattle.numbers.proofs.Lists.{length-up, get-up, up-list}
 use Rattle.machine.specs.Registers.{fileSize}
-use Rattle.machine.specs.Windows.{laid, Held, comeIn}
-use Rattle.machine.specs.Effect.{Machine, machine}
-use Rattle.machine.proofs.Bounds.{Sound}
-use Rattle.machine.proofs.Ring.{laid-low, laid-length, shown-in, held-in}
+use Rattle.windows.specs.Windows.{laid, Held, comeIn}
+use Rattle.effects.specs.Effect.{Machine, machine}
+use Rattle.effects.proofs.Bounds.{Sound}
+use Rattle.windows.proofs.Ring.{laid-low, laid-length, shown-in, held-in}
 use Rattle.model.specs.Run.{zeroed, dataOf}
 use Rattle.model.specs.Cores.{wholeFile, shownOf, begunWith}
 use Rattle.model.specs.StateBytes.{fileIn}

@@ -1,114 +1,139 @@
--- The two trails from one place, entry by entry: by induction on the cut.
+-- Two cores that follow places, from a place of both: their trails, entry by entry, by induction on the cut. Either may stray: go by a held address
+-- at which it does not go on.
 use Prim.Native.Nat.{ℕ, zero, suc, _+_, _*_, _%_, _≤_}
-use native.Mathlib.Nat.{zero-add}
 use native.Mathlib.Omega.{arith}
-use mathlib.Core.Path.{_≡_, refl, sym, subst₂}
-use mathlib.Core.Bool.{Bool, true, false}
+use mathlib.Core.Path.{_≡_, refl, sym, ap, _∙_, subst₂}
+use mathlib.Core.Bool.{Bool, true, false, false≢true}
 use mathlib.Core.List.{List}
 use mathlib.Core.Option.{Option, none, some}
 use lib.ListN.{length}
-use Rattle.numbers.specs.Number.{plus}
-use Rattle.machine.specs.Ends.{Ending, ending, live, settle}
-use Rattle.machine.specs.Effect.{Machine}
+use Rattle.numbers.specs.Choice.{pick}
+use Rattle.machine.specs.Ends.{Ending, ending, live}
+use Rattle.effects.specs.Effect.{Machine}
 use Rattle.machine.proofs.Ends.{RunEnd}
 use Rattle.model.specs.declared.Place.{Place}
 use Rattle.model.specs.Run.{step}
-use Rattle.model.specs.OldCore.{Old, old, wordIn, fetches, oldNext}
-use Rattle.model.specs.Places.{plain, placeAt, member, followers, allowed}
-use Rattle.model.specs.Records.{rowsOf, recordsOf, rowsIn, recordsIn}
-use Rattle.model.specs.NewCore.{New, goes, lost}
-use Rattle.model.specs.Trails.{Trail, cut, shut, at, closes, trail}
-use Rattle.model.specs.Cores.{shownOf, oldMark, oldShown, oldOver, newShown}
-use Rattle.model.proofs.Transfers.{present, inside-word}
-use Rattle.model.proofs.Members.{AllIn, AllP}
-use Rattle.model.proofs.Hop.{after, Hopped, hopped}
+use Rattle.model.specs.OldCore.{inImage, wordIn}
+use Rattle.model.specs.Places.{plain, placeAt, member}
+use Rattle.model.specs.NewCore.{lost}
+use Rattle.model.specs.Trails.{Core, Trail, cut, shut, at, trail}
+use Rattle.model.specs.Cores.{shownOf}
+use Rattle.model.proofs.Transfers.{inside-word}
+use Rattle.model.proofs.Hop.{onward, ends, lands, after, Hopped, hopped}
 use Rattle.model.proofs.Middle.{Out, on, over, by, out, OutOk, out-ok}
-use Rattle.model.proofs.OldSide.{Aligned, toOld, oldOut, old-hop, old-mark, old-shown, old-over}
-use Rattle.model.proofs.Groups.{sought, not-sought, first-le}
-use Rattle.model.proofs.NewSide.{newCore, toNew, newOut, new-hop, new-mark, new-over}
+use Rattle.model.proofs.Follows.{leftBy, Follower, Meet}
 
 -- from an entry to the next: one or two steps; to the first entry, whose lo is 0, none
 abbrev pub Pace : ℕ → ℕ → Type 0
 Pace lo gap = (lo ≤ gap) × (gap ≤ 2)
 
--- old against new: equal entries and an equal close, which is no end 6; or the one exception, where the new trail ends with 6
-pub data Same : ℕ → Trail → Trail → Type 0 where
-  both-cut : {lo : ℕ} → Same lo cut cut
-  both-shut : {lo : ℕ} (e : Ending) → RunEnd e → Same lo (shut e) (shut e)
-  both-at : {lo g h : ℕ} (a : ℕ) (m : Machine) {t u : Trail} → Pace lo g → Pace lo h → Same 1 t u → Same lo (at g a m t) (at h a m u)
-  no-place : {lo g h : ℕ} (a : ℕ) (m : Machine) (t : Trail) → Pace lo g → Pace lo h → Same lo (at g a m t) (at h a m (shut (ending 6 a)))
+-- the trails of two cores, of which one goes on at the held addresses C and the other at D: equal entries and an equal close, which is no end 6,
+-- unless one strays or both do, whose trail ends there with 6
+pub data Same (C D : ℕ → Bool) : ℕ → Trail → Trail → Type 0 where
+  both-cut : {lo : ℕ} → Same C D lo cut cut
+  both-shut : {lo : ℕ} (e : Ending) → RunEnd e → Same C D lo (shut e) (shut e)
+  both-at : {lo g h : ℕ} (a : ℕ) (m : Machine) {t u : Trail} → Pace lo g → Pace lo h → Same C D 1 t u → Same C D lo (at g a m t) (at h a m u)
+  left-strays : {lo g h : ℕ} (a : ℕ) (m : Machine) (u : Trail) → Pace lo g → Pace lo h → C a ≡ false → D a ≡ true
+      → Same C D lo (at g a m (shut (ending 6 a))) (at h a m u)
+  right-strays : {lo g h : ℕ} (a : ℕ) (m : Machine) (t : Trail) → Pace lo g → Pace lo h → C a ≡ true → D a ≡ false
+      → Same C D lo (at g a m t) (at h a m (shut (ending 6 a)))
+  both-stray : {lo g h : ℕ} (a : ℕ) (m : Machine) → Pace lo g → Pace lo h → C a ≡ false → D a ≡ false
+      → Same C D lo (at g a m (shut (ending 6 a))) (at h a m (shut (ending 6 a)))
 
--- what the walk gives: every place is allowed, leads to places of the list, and is aligned
-pub record Closed (image : List ℕ) (base : ℕ) (ps : List Place) : Type 0 where
-  pub ok : (x : Place) → member ps x ≡ true → allowed image base x ≡ true
-  pub closed : (x : Place) → member ps x ≡ true → AllIn ps (followers image base x)
-  pub aligned : AllP Aligned ps
-  pub aligned-at : (x : Place) → member ps x ≡ true → Aligned x
+-- ---------------------------------------------------------------- going by a held address a, whose word is o: b says whether the core goes on there
+abbrev Behind : Option ℕ → Bool → ℕ → Trail → Type 0
+Behind none b a t = t ≡ shut (ending 2 a)
+Behind (some w) true a t = Unit {0}
+Behind (some w) false a t = t ≡ shut (ending 6 a)
 
-module _ (image : List ℕ) (base db : ℕ) (ps : List Place) (records places : List ℕ) where
-  abbrev O : ℕ → ℕ → ℕ → Old → Trail
-  O f k gap s = trail (oldOver image base db) f k gap (live s)
+-- the trail has a's entry, if the cut leaves room for it
+abbrev Enters : ℕ → ℕ → ℕ → Machine → Option ℕ → Bool → Trail → Type 0
+Enters zero i a m o b t = t ≡ cut
+Enters (suc k) i a m o b t = (rest : Trail) × ((t ≡ at i a m rest) × Behind o b a rest)
 
-  abbrev N : ℕ → ℕ → ℕ → New → Trail
-  N f k gap s = trail (newCore image base db ps records places) f k gap (live s)
+module _ (image : List ℕ) (base db : ℕ) {S : Type 0} {c : Core S} (F : Follower image base db c) where
+  enters : (k f i a : ℕ) (m : Machine) (o : Option ℕ) (b : Bool) → wordIn image base a ≡ o → F .goes a ≡ b → 2 * k + 1 ≤ f → a % 4 ≡ 0
+      → Enters k i a (shownOf m) o b
+      (after c f k i (pick b (onward (F .to (plain a) a m)) (lands a (shownOf m) (lost (inImage base (length image) a) a))))
+  unfolding lost
+  enters zero f i a m o false e q l al = refl
+  enters (suc k) f i a m none false e q l al = (shut (ending 2 a), (rw (inside-word image base a, e), refl))
+  enters (suc k) f i a m (some w) false e q l al = (shut (ending 6 a), (rw (inside-word image base a, e), refl))
+  enters zero zero i a m o true e q l al = absurd (omega arith)
+  enters zero (suc f) i a m o true e q l al = rw (F .marks-on a m q)
+  enters (suc k) zero i a m o true e q l al = absurd (omega arith)
+  enters (suc k) (suc zero) i a m o true e q l al = absurd (omega arith)
+  enters (suc k) (suc (suc f)) i a m none true e q l al =
+      let r = hopped c (F .over) f k i a (F .to (plain a) a m) (ends (ending 2 a)) (F .marks-on a m q) (F .ends-on a m q al e) in
+      (shut (ending 2 a), (r .eq ∙ ap (λ (z : Machine). at i a z (shut (ending 2 a))) (F .shows (plain a) a m), refl))
+  enters (suc k) (suc (suc f)) i a m (some w) true e q l al =
+      (trail c (suc f) k 1 (step (c .next) (live (F .to (plain a) a m))), (rw (F .marks-on a m q, F .shows (plain a) a m), tt))
+
+module _ (image : List ℕ) (base db : ℕ) {S T : Type 0} {c : Core S} {d : Core T} (F : Follower image base db c) (G : Follower image base db d)
+    (meet : Meet F G) where
+  abbrev Same′ : ℕ → Trail → Trail → Type 0
+  Same′ = Same (F .goes) (G .goes)
+
+  -- not both go on
+  apart : (k i j a : ℕ) (m : Machine) (o : Option ℕ) (b e : Bool) → F .goes a ≡ b → G .goes a ≡ e → (b ≡ true → e ≡ true → ⊥) → Pace 1 i → Pace 1 j
+      → (t u : Trail) → Enters k i a m o b t → Enters k j a m o e u → Same′ 1 t u
+  apart zero i j a m o b e x y n p q t u v w = rw (v, w) both-cut
+  apart (suc k) i j a m none b e x y n p q t u v w =
+      rw (v .1 .0, w .1 .0, v .1 .1, w .1 .1) (both-at a m p q (both-shut (ending 2 a) (omega arith)))
+  apart (suc k) i j a m (some z) true true x y n p q t u v w = absurd (n refl refl)
+  apart (suc k) i j a m (some z) true false x y n p q t u v w = rw (v .1 .0, w .1 .0, w .1 .1) (right-strays a m (v .0) p q x y)
+  apart (suc k) i j a m (some z) false true x y n p q t u v w = rw (v .1 .0, w .1 .0, v .1 .1) (left-strays a m (w .0) p q x y)
+  apart (suc k) i j a m (some z) false false x y n p q t u v w = rw (v .1 .0, w .1 .0, v .1 .1, w .1 .1) (both-stray a m p q x y)
 
   abbrev Goal : ℕ → Type 0
-  Goal k = (f g i j : ℕ) → 2 * k + 1 ≤ f → 2 * k + 1 ≤ g → (lo : ℕ) → Pace lo i → Pace lo j → (pl : Place) (h : ℕ) (m : Machine) → member ps pl ≡ true
-      → h % 4 ≡ 0 → Same lo (O f k i (toOld pl h m)) (N g k j (toNew image base db ps records places pl h m))
+  Goal k = (f g i j : ℕ) → 2 * k + 1 ≤ f → 2 * k + 1 ≤ g → (lo : ℕ) → Pace lo i → Pace lo j → (pl : Place) (h : ℕ) (m : Machine)
+      → member (F .ps) pl ≡ true → member (G .ps) pl ≡ true → h % 4 ≡ 0 → Same′ lo (trail c f k i (live (F .to pl h m))) (trail d g k j (live (G .to pl h m)))
 
-  -- going by a held address with no plain place: outside the image both end with 2 after that entry, inside the new core ends with 6
-  astray : (k f i j a : ℕ) (m : Machine) (o : Option ℕ) → wordIn image base a ≡ o → 2 * k + 1 ≤ f → Pace 1 i → Pace 1 j → a % 4 ≡ 0
-      → Same 1 (O f k i (old m a (plus a 4) false)) (closes (some a) k j (shownOf m) (lost (present o) a))
-  unfolding oldMark oldShown step settle oldNext fetches lost
-  astray k zero i j a m o e l p q al = absurd (omega arith)
-  astray zero (suc f) i j a m none e l p q al = both-cut
-  astray zero (suc f) i j a m (some w) e l p q al = both-cut
-  astray (suc k) (suc zero) i j a m o e l p q al = absurd (omega arith)
-  astray (suc k) (suc (suc f)) i j a m none e l p q al = rw (al, e) (both-at a (shownOf m) p q (both-shut (ending 2 a) (omega arith)))
-  astray (suc k) (suc (suc f)) i j a m (some w) e l p q al = no-place a (shownOf m) _ p q
+  onwards : (k f g i j : ℕ) → Goal k → 2 * k + 1 ≤ f → 2 * k + 1 ≤ g → Pace 1 i → Pace 1 j → (o : Out) → OutOk image base db (F .ps) o → OutOk image base db (G .ps) o
+      → Same′ 1 (after c f k i (leftBy image base db (F .to) (F .goes) o)) (after d g k j (leftBy image base db (G .to) (G .goes) o))
+  onwards k f g i j ih lf lg p q (on pl h m) x y = ih f g i j lf lg 1 p q pl h m (x .0) (y .0) (x .1)
+  onwards k f g i j ih lf lg p q (over e) x y = both-shut e x
+  onwards k f g i j ih lf lg p q (by a m) x y = split (F .goes a) (G .goes a) refl refl
+    where
+      L : Bool → Trail
+      L b = after c f k i (pick b (onward (F .to (plain a) a m)) (lands a (shownOf m) (lost (inImage base (length image) a) a)))
 
-  module _ (er : rowsIn places ≡ rowsOf image base ps) where
-    onwards : (k f g i j : ℕ) → Goal k → 2 * k + 1 ≤ f → 2 * k + 1 ≤ g → Pace 1 i → Pace 1 j → (o : Out) → OutOk image base db ps o
-        → Same 1 (after (oldOver image base db) f k i (oldOut o))
-        (after (newCore image base db ps records places) g k j (newOut image base db ps records places o))
-    unfolding goes rowsOf
-    onwards k f g i j ih lf lg p q (on pl h m) ok = ih f g i j lf lg 1 p q pl h m (ok .0) (ok .1)
-    onwards k f g i j ih lf lg p q (over e) ok = both-shut e ok
-    onwards k f g i j ih lf lg p q (by a m) ok = split (member ps (plain a)) refl
-      where
-        split : (b : Bool) → member ps (plain a) ≡ b
-            → Same 1 (after (oldOver image base db) f k i (oldOut (by a m)))
-            (after (newCore image base db ps records places) g k j (newOut image base db ps records places (by a m)))
-        split true e = rw (er, sought image base ps 0 a e, zero-add) (ih f g i j lf lg 1 p q (plain a) a m e ok)
-        split false e = rw (er, not-sought image base ps 0 a e, inside-word image base a) (astray k f i j a m (wordIn image base a) refl lf p q ok)
+      R : Bool → Trail
+      R b = after d g k j (pick b (onward (G .to (plain a) a m)) (lands a (shownOf m) (lost (inImage base (length image) a) a)))
 
-    joins : (k f g i j : ℕ) (pl : Place) (h : ℕ) (m : Machine) → Goal k → 2 * k + 1 ≤ f → 2 * k + 1 ≤ g → (lo : ℕ) → Pace lo i → Pace lo j
-        → OutOk image base db ps (out image base db pl h m)
-        → Hopped (oldOver image base db) (old-over image base db) f k i (placeAt pl) (toOld pl h m) (oldOut (out image base db pl h m))
-        → Hopped (newCore image base db ps records places) (new-over records places base (length image) db) g k j (placeAt pl)
-        (toNew image base db ps records places pl h m) (newOut image base db ps records places (out image base db pl h m))
-        → Same lo (O (suc (suc f)) (suc k) i (toOld pl h m)) (N (suc (suc g)) (suc k) j (toNew image base db ps records places pl h m))
-    unfolding newShown
-    joins k f g i j pl h m ih lf lg lo p q ok a b =
-        subst₂ (λ (t u : Trail). Same lo t u) (sym (a .eq)) (sym (b .eq))
-        (rw (old-shown image base db pl h m) (both-at (placeAt pl) (shownOf m) p q
-        (onwards k (a .fuel) (b .fuel) (a .steps) (b .steps) ih (omega (arith, a .enough)) (omega (arith, b .enough)) (a .pace) (b .pace)
-        (out image base db pl h m) ok)))
+      parted : (b e : Bool) → F .goes a ≡ b → G .goes a ≡ e → (b ≡ true → e ≡ true → ⊥) → Same′ 1 (L b) (R e)
+      parted b e u v n =
+          apart k i j a (shownOf m) (wordIn image base a) b e u v n p q (L b) (R e)
+          (enters image base db F k f i a m (wordIn image base a) b refl u lf x)
+          (enters image base db G k g j a m (wordIn image base a) e refl v lg x)
 
-    module _ (ec : recordsIn records ≡ recordsOf image base ps) (C : Closed image base ps) (few : length ps ≤ 8192) where
-      pub sim : (k : ℕ) → Goal k
-      sim zero zero g i j lf lg lo p q pl h m x y = absurd (omega arith)
-      sim zero (suc f) zero i j lf lg lo p q pl h m x y = absurd (omega arith)
-      sim zero (suc f) (suc g) i j lf lg lo p q pl h m x y =
-          rw (old-mark image base db pl h m, new-mark image base db ps records places er ec pl h m x) both-cut
-      sim (suc k) zero g i j lf lg lo p q pl h m x y = absurd (omega arith)
-      sim (suc k) (suc zero) g i j lf lg lo p q pl h m x y = absurd (omega arith)
-      sim (suc k) (suc (suc f)) zero i j lf lg lo p q pl h m x y = absurd (omega arith)
-      sim (suc k) (suc (suc f)) (suc zero) i j lf lg lo p q pl h m x y = absurd (omega arith)
-      sim (suc k) (suc (suc f)) (suc (suc g)) i j lf lg lo p q pl h m x y =
-          joins k f g i j pl h m (sim k) (omega arith) (omega arith) lo p q (out-ok image base db ps pl h m y (C .ok pl x) (C .closed pl x))
-          (hopped (oldOver image base db) (old-over image base db) f k i (placeAt pl) (toOld pl h m) _ (old-mark image base db pl h m)
-          (old-hop image base db pl h m (C .aligned-at pl x) (C .ok pl x)))
-          (hopped (newCore image base db ps records places) (new-over records places base (length image) db) g k j (placeAt pl)
-          (toNew image base db ps records places pl h m) _ (new-mark image base db ps records places er ec pl h m x)
-          (new-hop image base db ps records places er ec pl h m (omega (arith, first-le image base ps pl)) x (C .ok pl x)))
+      split : (b e : Bool) → F .goes a ≡ b → G .goes a ≡ e → Same′ 1 (L b) (R e)
+      split true true u v = ih f g i j lf lg 1 p q (plain a) a m (meet a u v .0) (meet a u v .1) x
+      split true false u v = parted true false u v (λ s t. false≢true t)
+      split false e u v = parted false e u v (λ s t. false≢true s)
+
+  joins : (k f g i j : ℕ) (pl : Place) (h : ℕ) (m : Machine) → Goal k → 2 * k + 1 ≤ f → 2 * k + 1 ≤ g → (lo : ℕ) → Pace lo i → Pace lo j
+      → OutOk image base db (F .ps) (out image base db pl h m) → OutOk image base db (G .ps) (out image base db pl h m)
+      → Hopped c (F .over) f k i (placeAt pl) (F .to pl h m) (leftBy image base db (F .to) (F .goes) (out image base db pl h m))
+      → Hopped d (G .over) g k j (placeAt pl) (G .to pl h m) (leftBy image base db (G .to) (G .goes) (out image base db pl h m))
+      → Same′ lo (trail c (suc (suc f)) (suc k) i (live (F .to pl h m))) (trail d (suc (suc g)) (suc k) j (live (G .to pl h m)))
+  joins k f g i j pl h m ih lf lg lo p q x y a b =
+      subst₂ (λ (t u : Trail). Same′ lo t u) (sym (a .eq)) (sym (b .eq))
+      (rw (F .shows pl h m, G .shows pl h m) (both-at (placeAt pl) (shownOf m) p q
+      (onwards k (a .fuel) (b .fuel) (a .steps) (b .steps) ih (omega (arith, a .enough)) (omega (arith, b .enough)) (a .pace) (b .pace)
+      (out image base db pl h m) x y)))
+
+  pub sim : (k : ℕ) → Goal k
+  sim zero zero g i j lf lg lo p q pl h m x y al = absurd (omega arith)
+  sim zero (suc f) zero i j lf lg lo p q pl h m x y al = absurd (omega arith)
+  sim zero (suc f) (suc g) i j lf lg lo p q pl h m x y al = rw (F .marks pl h m x, G .marks pl h m y) both-cut
+  sim (suc k) zero g i j lf lg lo p q pl h m x y al = absurd (omega arith)
+  sim (suc k) (suc zero) g i j lf lg lo p q pl h m x y al = absurd (omega arith)
+  sim (suc k) (suc (suc f)) zero i j lf lg lo p q pl h m x y al = absurd (omega arith)
+  sim (suc k) (suc (suc f)) (suc zero) i j lf lg lo p q pl h m x y al = absurd (omega arith)
+  sim (suc k) (suc (suc f)) (suc (suc g)) i j lf lg lo p q pl h m x y al =
+      joins k f g i j pl h m (sim k) (omega arith) (omega arith) lo p q
+      (out-ok image base db (F .ps) pl h m al (F .closed .ok pl x) (F .closed .closed pl x))
+      (out-ok image base db (G .ps) pl h m al (G .closed .ok pl y) (G .closed .closed pl y))
+      (hopped c (F .over) f k i (placeAt pl) (F .to pl h m) _ (F .marks pl h m x) (F .hops pl h m x))
+      (hopped d (G .over) g k j (placeAt pl) (G .to pl h m) _ (G .marks pl h m y) (G .hops pl h m y))

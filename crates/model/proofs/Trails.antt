@@ -6,7 +6,7 @@ use mathlib.Core.Option.{Option, none, some}
 use native.Mathlib.Omega.{arith}
 use lib.ListN.{length}
 use Rattle.machine.specs.Ends.{Ending, ending, Next, go, halt, State, state, live, settle}
-use Rattle.machine.specs.Effect.{Machine}
+use Rattle.effects.specs.Effect.{Machine}
 use Rattle.model.specs.Run.{step, run}
 use Rattle.model.specs.Trails.{Core, Trail, at, closes, turn, trail, entries, later, closing, Unspent, oneIf, stood, Traced}
 use Rattle.model.proofs.Hop.{lands, endsBy, leaves, left, after, Over, settled}

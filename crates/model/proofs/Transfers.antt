@@ -20,8 +20,9 @@ use Rattle.words.specs.declared.Instruction.{Instruction}
 use Rattle.words.specs.declared.Instruction.the-variants.{Illegal, Call, Sethi, Bicc, Arithmetic, Jmpl, Ticc, Load, Store, Shift, Rdy, Wry, Window}
 use Rattle.machine.specs.Ends.{Ending, ending, go, halt, within}
 use Rattle.machine.specs.Registers.{addressOf}
-use Rattle.machine.specs.Effect.{Machine, effectOf, trapOf}
+use Rattle.effects.specs.Effect.{Machine, effectOf, trapOf}
 use Rattle.model.specs.OldCore.{inImage, wordIn, Transfer, illegal, straight, trap, call, bicc, jmpl, transferOf}
+use Rattle.model.specs.Places.{Which, never, always, depends, whichOf, idleBicc}
 
 -- no transfer is another: told apart by their place in this order
 abbrev tag : Transfer → ℕ
@@ -167,3 +168,13 @@ inside-word image base a = go (inImage base (length image) a)
     go : (b : Bool) → b ≡ present (pick b (some (numberAt image (minus a base))) none)
     go true = refl
     go false = refl
+
+-- a branch that annuls is none that may be held
+pub annuls : (cond : ℕ) (annul : Bool) → annul ≡ true → idleBicc (whichOf cond) annul ≡ false
+unfolding idleBicc
+annuls cond annul h = rw h (each (whichOf cond))
+  where
+    each : (w : Which) → idleBicc w true ≡ false
+    each never = refl
+    each always = refl
+    each depends = refl

@@ -19,8 +19,7 @@ use Rattle.model.specs.OldCore.{wordIn, Transfer, illegal, straight, tra
 use Rattle.model.specs.Places.{placeAt, member, Which, never, always, depends, whichOf, biccNames, returnNames, names, namesAt, followers, allowed, plains, Makes, from-entry, from-place}
 use Rattle.model.specs.Walk.{Walked, table, refused, endless, grow, grown, tested, handle, walk, placesOf}
 use Rattle.model.proofs.Members.{mem-left, mem-last, AllIn, all-in-left, in-all, AllP, all-append, all-at, all-from, all-map, all-get}
-use Rattle.model.proofs.OldSide.{Aligned}
-use Rattle.model.proofs.Simulation.{Closed}
+use Rattle.model.proofs.Follows.{Aligned, Closed}
 
 -- ---------------------------------------------------------------- growing the list
 -- what a list grew to by the places fs

@@ -3,8 +3,8 @@ use Prim.Native.Nat.{ℕ, zero, suc}
 use lib.ListN.{length}
 use Rattle.machine.specs.Ends.{ending, Next, State, state}
 use Rattle.machine.specs.Registers.{registerOf}
-use Rattle.machine.specs.Effect.{Machine}
-use Rattle.machine.proofs.Bounds.{Sound, Leaves}
+use Rattle.effects.specs.Effect.{Machine}
+use Rattle.effects.proofs.Bounds.{Sound, Leaves}
 use Rattle.model.specs.Run.{run, dataOf}
 use Rattle.model.specs.OldCore.{Old, old, oldNext}
 use Rattle.model.specs.NewCore.{New, new, newNext}

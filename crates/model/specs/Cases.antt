@@ -5,8 +5,8 @@ use lib.ListN.{length, getD, set, replicate}
 use Rattle.numbers.specs.Number.{bytesOf, upTo}
 use Rattle.machine.specs.Ends.{Ending, ending, Next, State, state, live}
 use Rattle.machine.specs.Registers.{fileSize, yOf}
-use Rattle.machine.specs.Windows.{nestingOf}
-use Rattle.machine.specs.Effect.{machine}
+use Rattle.windows.specs.Windows.{nestingOf}
+use Rattle.effects.specs.Effect.{machine}
 use Rattle.model.specs.Run.{run}
 use Rattle.model.specs.OldCore.{Old, old, oldNext, oldBegun}
 use Rattle.model.specs.Records.{numbersIn}
@@ -318,9 +318,9 @@ cases =
     ∷ row 0 (newTold 2 4 strays (begins 16 5 0) 9) (0 ∷ 16 ∷ 5 ∷ 2 ∷ 16 ∷ [])
     -- the bytes that such a begin leaves: all registers, flags, Y and windows as they were, record 0, held address 0, end 6 and the address; the nesting
     -- as it counts, and the current window's ins, locals and outs among the windows
-    ∷ row 0 (numbersIn (newBegins [] 0 16 8 (bytesOf (upTo (λ i. i + 5) 167)) .state)) (0 ∷ upTo (λ i. i + 6) 31 ++ (5 ∷ 0 ∷ 0 ∷ 6 ∷ 8 ∷ 42 ∷ 6 ∷ upTo (λ i. i + 44) 96 ++ upTo (λ i. i + 29) 8 ++ upTo (λ i. i + 21) 8 ++ upTo (λ i. i + 13) 8 ++ upTo (λ i. i + 164) 8))
+    ∷ row 0 (newBegins [] 0 16 8 (bytesOf (upTo (λ i. i + 5) 167)) .state) (bytesOf (0 ∷ upTo (λ i. i + 6) 31 ++ (5 ∷ 0 ∷ 0 ∷ 6 ∷ 8 ∷ 42 ∷ 6 ∷ upTo (λ i. i + 44) 96 ++ upTo (λ i. i + 29) 8 ++ upTo (λ i. i + 21) 8 ++ upTo (λ i. i + 13) 8 ++ upTo (λ i. i + 164) 8)))
     -- and a begin of the old core
-    ∷ row 0 (numbersIn (oldBegins 8 (bytesOf (upTo (λ i. i + 5) 168)))) (0 ∷ upTo (λ i. i + 6) 31 ++ (5 ∷ 8 ∷ 12 ∷ 0 ∷ 0 ∷ 0 ∷ 43 ∷ 6 ∷ upTo (λ i. i + 45) 96 ++ upTo (λ i. i + 29) 8 ++ upTo (λ i. i + 21) 8 ++ upTo (λ i. i + 13) 8 ++ upTo (λ i. i + 165) 8))
+    ∷ row 0 (oldBegins 8 (bytesOf (upTo (λ i. i + 5) 168))) (bytesOf (0 ∷ upTo (λ i. i + 6) 31 ++ (5 ∷ 8 ∷ 12 ∷ 0 ∷ 0 ∷ 0 ∷ 43 ∷ 6 ∷ upTo (λ i. i + 45) 96 ++ upTo (λ i. i + 29) 8 ++ upTo (λ i. i + 21) 8 ++ upTo (λ i. i + 13) 8 ++ upTo (λ i. i + 165) 8)))
     -- and how many bytes a state has, of either core
     ∷ row 0 (length (oldBegins 8 []) ∷ length (newBegins [] 0 16 8 [] .state) ∷ oldSize ∷ newSize ∷ []) (672 ∷ 668 ∷ 672 ∷ 668 ∷ [])
     -- each refusal, with both buffers: "Every refusal fills both buffers with 0"

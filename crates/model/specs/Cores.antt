@@ -9,8 +9,8 @@ use Rattle.numbers.specs.Choice.{pick}
 use Rattle.numbers.specs.Number.{upTo}
 use Rattle.machine.specs.Ends.{ending, State, state}
 use Rattle.machine.specs.Registers.{fileSize}
-use Rattle.machine.specs.Windows.{laid, comeIn}
-use Rattle.machine.specs.Effect.{Machine, machine}
+use Rattle.windows.specs.Windows.{laid, comeIn}
+use Rattle.effects.specs.Effect.{Machine, machine}
 use Rattle.model.specs.Run.{dataOf}
 use Rattle.model.specs.OldCore.{Old, old, oldNext, oldBegun}
 use Rattle.model.specs.Records.{Rec, doWord, link, hold, goIf, goTo, goHeld, stop, unknown, Row, row, rowsIn, recordsIn}

@@ -10,8 +10,8 @@ use lib.ListN.{length, take, getD}
 use Rattle.numbers.specs.Number.{Below}
 use Rattle.machine.specs.Ends.{ending, State, state, live}
 use Rattle.machine.specs.Registers.{fileSize, yOf}
-use Rattle.machine.specs.Windows.{nestingOf, placeOf}
-use Rattle.machine.specs.Effect.{machine}
+use Rattle.windows.specs.Windows.{nestingOf, placeOf}
+use Rattle.effects.specs.Effect.{machine}
 use Rattle.model.specs.declared.Answer.the-variants.{Accepted}
 use Rattle.model.specs.Run.{run}
 use Rattle.model.specs.OldCore.{inImage}

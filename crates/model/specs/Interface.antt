@@ -11,7 +11,7 @@ use lib.ListN.{getElem?, length, take}
 use Rattle.numbers.specs.Choice.{pick}
 use Rattle.numbers.specs.Number.{Below, numberAt}
 use Rattle.machine.specs.Ends.{Ending, ending, Next, go, halt, State, state, live}
-use Rattle.machine.specs.Effect.{Machine, machine}
+use Rattle.effects.specs.Effect.{Machine, machine}
 use Rattle.model.specs.Run.{dataOf}
 use Rattle.model.specs.OldCore.{inImage}
 use Rattle.model.specs.Records.{rowsIn, recordsIn}

@@ -11,8 +11,6 @@ pub mod FirstBadEntry
 pub mod Trails
 pub mod Cores
 pub mod Demand3
-pub mod OldState
-pub mod NewState
 pub mod StateBytes
 pub mod Interface
 pub mod Cases

@@ -11,7 +11,7 @@ use Rattle.words.specs.Reader.{instructionOf}
 use Rattle.words.specs.Conditions.{holdsOf}
 use Rattle.machine.specs.Ends.{Ending, ending, Next, go, halt, within, State, state, live}
 use Rattle.machine.specs.Registers.{putRegister, addressOf}
-use Rattle.machine.specs.Effect.{Machine, withRegisters, effectOf}
+use Rattle.effects.specs.Effect.{Machine, withRegisters, effectOf}
 use Rattle.model.specs.OldCore.{inImage, Transfer, illegal, straight, trap, call, bicc, jmpl, transferOf}
 use Rattle.model.specs.Places.{mayBeHeld}
 use Rattle.model.specs.Records.{Rec, doWord, link, hold, goIf, goTo, goHeld, stop, unknown, Row, row, rowsIn, recordsIn}

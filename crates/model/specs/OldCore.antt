@@ -14,7 +14,7 @@ use Rattle.words.specs.declared.Instruction.{Instruction}
 use Rattle.words.specs.declared.Instruction.the-variants.{Illegal, Call, Sethi, Bicc, Arithmetic, Jmpl, Ticc, Load, Store, Shift, Rdy, Wry, Window}
 use Rattle.machine.specs.Ends.{ending, Next, go, halt, within, State, live}
 use Rattle.machine.specs.Registers.{putRegister, addressOf}
-use Rattle.machine.specs.Effect.{Machine, withRegisters, effectOf}
+use Rattle.effects.specs.Effect.{Machine, withRegisters, effectOf}
 
 -- "State: 32 registers of 32 bits, flags N, Z, V, C, PC, nPC, annul". 02, N4: "The state and each trail entry gain Y"; N11: "Add V8's windows":
 -- registers, Y and windows, flags and data, then PC, nPC, annul

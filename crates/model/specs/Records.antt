@@ -95,20 +95,28 @@ put first (two r s) rest = numbered first r ∷ numbered first s ∷ rest
 pub data Row : Type 0 where
   row : ℕ → ℕ → ℕ → ℕ → Row
 
+-- a layout: the group of a place, which may depend on the places after it
+abbrev pub Grouping : Type 0
+Grouping = Place → List Place → Group Place
+
+-- 01's own layout: every group in full
+abbrev pub inFull : List ℕ → ℕ → Grouping
+inFull image base y ys = group image base y
+
 -- "Groups follow place order."
-module _ (image : List ℕ) (base : ℕ) where
+module _ (lay : Grouping) where
   -- the first record of a place of the list, by the groups before it
   unfoldable pub first : List Place → Place → ℕ
   first [] x = 0
-  first (y ∷ ys) x = pick (samePlace y x) 0 (past (group image base y) (first ys x))
+  first (y ∷ ys) x = pick (samePlace y x) 0 (past (lay y ys) (first ys x))
 
   unfoldable pub rowsFrom : ℕ → List Place → List Row
   rowsFrom n [] = []
-  rowsFrom n (y ∷ ys) = row (placeAt y) (nextOf y) (kindOf y) n ∷ rowsFrom (past (group image base y) n) ys
+  rowsFrom n (y ∷ ys) = row (placeAt y) (nextOf y) (kindOf y) n ∷ rowsFrom (past (lay y ys) n) ys
 
   unfoldable pub recordsFrom : (Place → ℕ) → List Place → List (Rec ℕ)
   recordsFrom f [] = []
-  recordsFrom f (y ∷ ys) = put f (group image base y) (recordsFrom f ys)
+  recordsFrom f (y ∷ ys) = put f (lay y ys) (recordsFrom f ys)
 
   unfoldable pub rowsOf : List Place → List Row
   rowsOf ps = rowsFrom 0 ps

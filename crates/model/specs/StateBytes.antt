@@ -1,5 +1,7 @@
 -- States as bytes, numbers big-endian: how a loader in C holds them.
 use Prim.Native.Nat.{ℕ, _+_, _-_, _*_, _%_}
+use mathlib.Core.Bool.{Bool, not}
+use lib.Dec.{eqb}
 use mathlib.Core.List.{List, [], _∷_, _++_}
 use mathlib.Core.Path.{_≡_}
 use lib.ListN.{take, drop}
@@ -7,12 +9,11 @@ use Rattle.numbers.specs.Number.{Below, numberAt, numbersOf, bytesOf}
 use Rattle.words.specs.Conditions.{bitOf}
 use Rattle.machine.specs.Ends.{Ending, ending, endingFrom, State, state}
 use Rattle.machine.specs.Registers.{fileSize, registerOf}
-use Rattle.machine.specs.Windows.{laid, comeIn}
-use Rattle.machine.specs.Effect.{Machine, machine}
+use Rattle.windows.specs.Windows.{laid, comeIn}
+use Rattle.effects.specs.Effect.{Machine, machine}
 use Rattle.model.specs.OldCore.{Old, old, oldNext, oldBegun}
 use Rattle.model.specs.NewCore.{New, new, newNext, newBegun}
 use Rattle.model.specs.Run.{run, zeroed, dataOf, beyond}
-use Rattle.model.specs.OldState.{isSet}
 
 -- numbers 0 to 31 are the registers. 02, N4: "The state and each trail entry gain Y"; N11: "Trail entries show the nesting and every window": what the
 -- file has behind the registers stands at the end of a state, from a byte that is each core's own
@@ -39,6 +40,10 @@ machineIn behind bytes area = machine (comeIn (zeroed (fileIn behind bytes))) (n
 -- a machine's numbers, as they are shown, those that a core has beside them between its flags and what the file has behind the registers
 abbrev pub stateNumbers : Machine → List ℕ → List ℕ
 stateNumbers m between = take 32 (laid (m .registers)) ++ (m .flags ∷ (between ++ drop 32 (laid (m .registers))))
+
+-- any annul but 0 is set
+unfoldable pub isSet : ℕ → Bool
+isSet x = not (eqb x 0)
 
 -- the old core: PC, nPC, annul, end and the number beside it follow
 unfoldable pub oldIn : List ℕ → List ℕ → State Old

@@ -12,7 +12,7 @@ use mathlib.Core.Path.{_≡_}
 use mathlib.Core.List.{List, [], _∷_}
 use mathlib.Core.Option.{Option, none, some}
 use Rattle.machine.specs.Ends.{Ending, ending, Next, State, state, live}
-use Rattle.machine.specs.Effect.{Machine}
+use Rattle.effects.specs.Effect.{Machine}
 use Rattle.model.specs.Run.{step, run}
 
 -- next: what a step does. mark: the address of the entry that stands before the step, if one does. shown: the registers, Y, flags

@@ -11,7 +11,7 @@ use Rattle.model.specs.declared.Answer.{Answer}
 use Rattle.model.specs.declared.Answer.the-variants.{Accepted, ImageLength, Base, Entry, Forbidden, NoRoom, RecordsShort}
 use Rattle.model.specs.OldCore.{inImage}
 use Rattle.model.specs.Walk.{Walked, table, refused, endless, placesOf}
-use Rattle.model.specs.Records.{numbersIn, rowsOf, recordsOf, tableNumbers, recordsNumbers}
+use Rattle.model.specs.Records.{numbersIn, inFull, rowsOf, recordsOf, tableNumbers, recordsNumbers}
 
 -- 01's number for each answer, and the values returned
 unfoldable pub answerNumbers : Answer → List ℕ
@@ -63,16 +63,16 @@ module _ (image : List ℕ) (base placesLength recordsLength : ℕ) where
   unfoldable pub acceptance : List Place → Handed
   acceptance ps =
       record {
-        answer = Accepted (length ps) (length (recordsOf image base ps));
-        places = filled (tableNumbers (rowsOf image base ps)) placesLength;
-        records = filled (recordsNumbers (recordsOf image base ps)) recordsLength;
+        answer = Accepted (length ps) (length (recordsOf (inFull image base) ps));
+        places = filled (tableNumbers (rowsOf (inFull image base) ps)) placesLength;
+        records = filled (recordsNumbers (recordsOf (inFull image base) ps)) recordsLength;
       }
 
   -- 4 or 5, as the walk says; 6: "the record buffer is short", with the records needed; endless never is (`places-end`)
   unfoldable pub fromWalk : Walked → Handed
   fromWalk (table ps) =
-      pick (leb (length (recordsOf image base ps)) (recordsLength / 12)) (acceptance ps)
-      (refusal placesLength recordsLength (RecordsShort (length (recordsOf image base ps))))
+      pick (leb (length (recordsOf (inFull image base) ps)) (recordsLength / 12)) (acceptance ps)
+      (refusal placesLength recordsLength (RecordsShort (length (recordsOf (inFull image base) ps))))
   fromWalk (refused n a) = pick (eqb n 4) (refusal placesLength recordsLength (Forbidden a)) (refusal placesLength recordsLength (NoRoom a))
   fromWalk endless = refusal placesLength recordsLength (NoRoom 0)
 

@@ -6,9 +6,9 @@ use Rattle.words.specs.declared.Instruction.the-variants.{Illegal, Call, Sethi,
 use Rattle.words.specs.declared.Instruction.{Instruction}
 use Rattle.words.specs.Reader.{instructionOf, asJmpl}
 use Rattle.machine.specs.Ends.{ending, halt}
-use Rattle.machine.specs.Effect.{Machine}
+use Rattle.effects.specs.Effect.{Machine}
 use Rattle.model.specs.Records.{rowAt, rowsIn, recordAt, recordsIn, recordOf, Rec, doWord, link, hold, goIf, goTo, goHeld, stop, unknown}
-use Rattle.model.specs.Places.{whichOf, idleBicc, Which, never, always, depends}
+use Rattle.model.specs.Places.{whichOf, idleBicc, Which, always, depends}
 use Rattle.model.specs.OldCore.{transferOf, Transfer, straight, trap}
 use Rattle.model.specs.NewCore.{fit, holds, seek}
 use denote.Enum.Declared.{tagOf}
@@ -19,7 +19,7 @@ use lib.Dec.{eqb}
 use native.Mathlib.Numerals.{add-one}
 use mathlib.Core.Option.{none, some}
 use mathlib.Core.List.{List, [], _∷_}
-use mathlib.Core.Bool.{Bool, true, false, _&&_}
+use mathlib.Core.Bool.{Bool, true, false, _&&_, and-false}
 use mathlib.Core.Path.{_≡_, refl}
 use Prim.Native.Nat.{ℕ, _+_, _*_, _/_, _≤_, _<_}
 use Rattle.words.proofs.Instruction.{the-type as instruction}
@@ -84,16 +84,7 @@ held-alone word i p m r e = rw e (alone (instructionOf word))
     alone (Wry s) = refl
     alone (Window o rd rs1 x) = refl
 
-each : (w : Which) → idleBicc w true ≡ false
-unfolding idleBicc
-each never = refl
-each always = refl
-each depends = refl
-
 -- a Bicc that a record may do: condition 0, no annul
-pub annuls : (cond : ℕ) (annul : Bool) → annul ≡ true → idleBicc (whichOf cond) annul ≡ false
-annuls cond annul h = rw h (each (whichOf cond))
-
 pub never-taken : (cond : ℕ) (annul : Bool) → annul ≡ false → cond ≡ 0 → idleBicc (whichOf cond) annul ≡ true
 unfolding idleBicc whichOf
 never-taken cond annul h e = rw (h, e)
@@ -110,10 +101,6 @@ at-hand records r h = at-up (recordAt records) (length records / 12) r h
 pub past-last : (records : List ℕ) (r : ℕ) → length records / 12 ≤ r → getElem? (recordsIn records) r ≡ none
 unfolding recordsIn
 past-last records r h = past-up (recordAt records) (length records / 12) r h
-
-and-false : (b : Bool) → b && false ≡ false
-and-false true = refl
-and-false false = refl
 
 -- the search of the table: the row at i is the one sought, or it is passed over; past the last there is none
 module _ (places : List ℕ) (a i : ℕ) where

@@ -8,23 +8,23 @@ ghost use Rattle.numbers.specs.Choice.{pick};
 ghost use Rattle.numbers.specs.Number.{plus};
 ghost use Rattle.machine.specs.Ends.{ending, endingOf, go, halt, isGoing, live, left, settle, within};
 ghost use Rattle.machine.specs.Registers.{putRegister};
-ghost use Rattle.machine.specs.Effect.{machine, effectOf};
+ghost use Rattle.effects.specs.Effect.{machine, effectOf};
 ghost use Rattle.model.specs.Run.{run, zeroed, dataOf, beyond, lent};
 ghost use Rattle.model.specs.OldCore.{transferOf, inImage};
 ghost use Rattle.model.specs.Places.{whichOf, idleBicc};
 ghost use Rattle.model.specs.Records.{rowsIn, recordAt};
 ghost use Rattle.model.specs.NewCore.{new, following, fit, holds, chooses, seek, lost, goes, stops, does, newNext, newBegun};
-ghost use Rattle.model.specs.NewState.{newOf, newState};
+ghost use Rattle.states.specs.NewState.{newOf, newState};
 ghost use Rattle.new_core.specs.Sought.{soughtOf};
+use effects::effect::perform;
 use machine::End;
 use machine::Flags;
 use machine::SourcePc;
 use machine::TargetPc;
-use machine::effect::perform;
 use machine::registers::File;
 use machine::registers::address;
 use machine::registers::put;
-use model::NewControl;
+use states::NewControl;
 use words::Instruction;
 
 // The next record.
@@ -159,7 +159,7 @@ fn choose(cond: u32, to: TargetPc, c: NewControl) -> NewControl
 {
     let f = c.flags;
     if cond <= 15 {
-        if machine::effect::holds(f, cond) {
+        if effects::effect::holds(f, cond) {
             return go_to(c, f, to);
         }
         return follow(c, f);
@@ -363,7 +363,7 @@ pub fn run(
     ensures { λ r. ⌜ lent (newState (now (regs .exit)) r (dataOf (now (area .exit)))) (beyond (now (area .exit))) ≡ lent (run (newNext (now (records .entry)) (now (places .entry)) base size db) count (newState (zeroed (now (regs .entry))) c (dataOf (now (area .entry))))) (beyond (now (area .entry))) ⌝ }
 {
     regs[0] = 0;
-    let n = machine::data_area::data_length(area.len());
+    let n = effects::data_area::data_length(area.len());
     steps(
         records,
         places,

@@ -7,13 +7,14 @@ use Rattle.words.specs.declared.Instruction.the-variants.{Illegal, Call, Sethi,
 use Rattle.words.specs.declared.Instruction.{Instruction}
 use Rattle.words.specs.Conditions.{bitOf}
 use Rattle.machine.specs.Ends.{within, live, settle, ending, halt}
-use Rattle.machine.specs.Effect.{effectOf, Machine}
+use Rattle.effects.specs.Effect.{effectOf, Machine}
 use Rattle.model.specs.OldCore.{transferOf, follows, executes, old, branches, wordIn, fetches, oldNext, straight, trap}
-use Rattle.model.specs.OldState.{isSet}
+use Rattle.model.specs.StateBytes.{isSet}
+use Rattle.model.proofs.RoundTrip.{annul-back}
 use denote.Enum.Declared.{tagOf}
 use types.Run.{OneOf, miss}
 use mathlib.Core.List.{List, [], _∷_}
-use mathlib.Core.Bool.{Bool, true, false, _&&_}
+use mathlib.Core.Bool.{Bool, true, false, and-true, and-false}
 use mathlib.Core.Path.{_≡_, refl}
 use Prim.Native.Nat.{ℕ, _%_}
 use Rattle.words.proofs.Instruction.{the-type as instruction}
@@ -44,11 +45,6 @@ no-transfer db (Wry s) m pc npc k = refl
 no-transfer db (Window o rd rs1 x) m pc npc k = refl
 
 -- annul, as a number and as a test
-pub set-bit : (b : Bool) → isSet (bitOf b) ≡ b
-unfolding isSet bitOf
-set-bit true = refl
-set-bit false = refl
-
 pub is-set : (x : ℕ) → (x ≡ 0 → ⊥) → isSet x ≡ true
 unfolding isSet
 is-set x n = rw (ne-eqb x 0 n)
@@ -61,23 +57,15 @@ is-clear x e = rw e
 module _ (m : Machine) (npc t : ℕ) (annul holds always : Bool) where
   pub branch-always : (k : ℕ) → holds ≡ true → always ≡ true → k ≡ bitOf annul → live (old m npc t (isSet k)) ≡ live (branches holds always annul m npc t)
   unfolding branches
-  branch-always k h e b = rw (h, e, b, set-bit annul, and-true annul)
-    where
-      and-true : (b : Bool) → b && true ≡ b
-      and-true true = refl
-      and-true false = refl
+  branch-always k h e b = rw (h, e, b, annul-back annul, and-true annul)
 
   pub branch-taken : holds ≡ true → always ≡ false → live (old m npc t (isSet 0)) ≡ live (branches holds always annul m npc t)
   unfolding branches isSet
   branch-taken h e = rw (h, e, and-false annul)
-    where
-      and-false : (b : Bool) → b && false ≡ false
-      and-false true = refl
-      and-false false = refl
 
   pub branch-fails : (k n : ℕ) → holds ≡ false → k ≡ bitOf annul → n ≡ plus npc 4 → live (old m npc n (isSet k)) ≡ live (branches holds always annul m npc t)
   unfolding branches
-  branch-fails k n h b e = rw (h, b, set-bit annul, e)
+  branch-fails k n h b e = rw (h, b, annul-back annul, e)
 
 -- by annul: the word is passed unread, or it is fetched
 module _ (image : List ℕ) (base db : ℕ) (m : Machine) (pc npc : ℕ) (annul : Bool) where

@@ -7,22 +7,23 @@ ghost use Rattle.numbers.specs.Choice.{pick};
 ghost use Rattle.words.specs.Conditions.{holdsOf};
 ghost use Rattle.machine.specs.Ends.{ending, halt, isGoing, live, left, settle};
 ghost use Rattle.machine.specs.Registers.{addressOf};
-ghost use Rattle.machine.specs.Effect.{machine};
+ghost use Rattle.effects.specs.Effect.{machine};
 ghost use Rattle.model.specs.Run.{run, zeroed, dataOf, beyond, lent};
 ghost use Rattle.model.specs.OldCore.{old, wordIn, transferOf, target, follows, branches, jumps, executes, fetches, oldNext, oldBegun};
-ghost use Rattle.model.specs.OldState.{isSet, oldOf, oldState};
+ghost use Rattle.model.specs.StateBytes.{isSet};
+ghost use Rattle.states.specs.OldState.{oldOf, oldState};
+use effects::effect::Effect;
+use effects::effect::holds;
+use effects::effect::perform;
 use machine::End;
 use machine::Flags;
 use machine::SourcePc;
-use machine::effect::Effect;
-use machine::effect::holds;
-use machine::effect::perform;
 use machine::further;
 use machine::registers::File;
 use machine::registers::address;
 use machine::registers::put;
-use model::OldControl;
 use model::target;
+use states::OldControl;
 use words::Instruction;
 use words::Operand;
 
@@ -218,6 +219,6 @@ pub fn run(
     ensures { λ r. ⌜ lent (oldState (now (regs .exit)) r (dataOf (now (area .exit)))) (beyond (now (area .exit))) ≡ lent (run (oldNext (now (image .entry)) base db) count (oldState (zeroed (now (regs .entry))) c (dataOf (now (area .entry))))) (beyond (now (area .entry))) ⌝ }
 {
     regs[0] = 0;
-    let n = machine::data_area::data_length(area.len());
+    let n = effects::data_area::data_length(area.len());
     steps(image, base, db, regs, c, &mut area[..n], count)
 }

@@ -1,11 +1,11 @@
 -- Laws of states and their bytes.
 use Rattle.machine.specs.Ends.{endingOf, Ending, State, ending, state}
-use Rattle.machine.specs.Effect.{Machine}
-use Rattle.model.specs.declared.NewControl.{NewControl}
+use Rattle.effects.specs.Effect.{Machine}
+use Rattle.states.specs.declared.NewControl.{NewControl}
 use Rattle.model.specs.Run.{dataOf, beyond, lent, Lent}
 use Rattle.model.specs.NewCore.{New, new}
 use Rattle.model.specs.StateBytes.{newBytes, after, newAfter}
-use Rattle.model.specs.NewState.{newState}
+use Rattle.states.specs.NewState.{newState}
 use lib.ListN.{take-append-drop}
 use mathlib.Core.List.{List}
 use mathlib.Core.Path.{_≡_, ap}

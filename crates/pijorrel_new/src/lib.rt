@@ -3,9 +3,9 @@ ghost use mathlib.Core.Path.{_≡_};
 ghost use mathlib.Core.List.{List, []};
 ghost use Prim.Native.Nat.{ℕ};
 ghost use Rattle.machine.specs.Ends.{ending, endingOf};
-ghost use Rattle.machine.specs.Windows.{laid};
+ghost use Rattle.windows.specs.Windows.{laid};
 ghost use Rattle.model.specs.Run.{zeroed};
-ghost use Rattle.model.specs.NewState.{newState};
+ghost use Rattle.states.specs.NewState.{newState};
 ghost use Rattle.model.specs.StateBytes.{newIn, newBytes, after, newBegins, newRuns};
 use machine::Ended;
 use machine::Flags;
@@ -13,15 +13,15 @@ use machine::SourcePc;
 use machine::TargetPc;
 use machine::registers::FILE;
 use machine::registers::File;
-use model::NEW_BEHIND;
-use model::NEW_STATE;
-use model::NewControl;
+use states::NEW_BEHIND;
+use states::NEW_STATE;
+use states::NewControl;
 
 // The state that bytes stand for, its file lent.
 fn decode(state: &[u8; NEW_STATE], regs: &mut File) -> NewControl
     ensures { λ r. ⌜ ((a : List ℕ) → newState (zeroed (now (regs .exit))) r a ≡ newIn (now (state .entry)) a) ⌝ }
 {
-    model::file_in(state, NEW_BEHIND, regs);
+    states::file_in(state, NEW_BEHIND, regs);
     let nzvc = numbers::read_number(state, 128) % 16;
     let k = TargetPc(numbers::read_number(state, 132));
     let h = SourcePc(numbers::read_number(state, 136));
@@ -48,7 +48,7 @@ fn encode(regs: &mut File, c: NewControl, state: &mut [u8; NEW_STATE]) -> Ended
     let e = c.end;
     let r = machine::numbers_of(e);
     let rest = [f.nzvc, k.0, h.0, r.end, r.number];
-    model::put_state(state, regs, &rest);
+    states::put_state(state, regs, &rest);
     r
 }
 

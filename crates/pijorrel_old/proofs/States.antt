@@ -1,10 +1,10 @@
 -- Laws of states and their bytes.
 use Rattle.machine.specs.Ends.{endingOf, Ending, State, ending, state}
-use Rattle.machine.specs.Effect.{Machine}
-use Rattle.model.specs.declared.OldControl.{OldControl}
+use Rattle.effects.specs.Effect.{Machine}
+use Rattle.states.specs.declared.OldControl.{OldControl}
 use Rattle.model.specs.Run.{dataOf, beyond, lent, Lent}
 use Rattle.model.specs.OldCore.{Old, old}
-use Rattle.model.specs.OldState.{oldState}
+use Rattle.states.specs.OldState.{oldState}
 use Rattle.model.specs.StateBytes.{oldBytes, after, oldAfter}
 use lib.ListN.{take-append-drop}
 use mathlib.Core.List.{List}

@@ -3,24 +3,24 @@ ghost use mathlib.Core.Path.{_≡_};
 ghost use mathlib.Core.List.{List};
 ghost use Prim.Native.Nat.{ℕ};
 ghost use Rattle.machine.specs.Ends.{ending, endingOf};
-ghost use Rattle.machine.specs.Windows.{laid};
+ghost use Rattle.windows.specs.Windows.{laid};
 ghost use Rattle.model.specs.Run.{zeroed};
-ghost use Rattle.model.specs.OldState.{oldState};
+ghost use Rattle.states.specs.OldState.{oldState};
 ghost use Rattle.model.specs.StateBytes.{oldIn, oldBytes, after, oldBegins, oldRuns};
 use machine::Ended;
 use machine::Flags;
 use machine::SourcePc;
 use machine::registers::FILE;
 use machine::registers::File;
-use model::OLD_BEHIND;
-use model::OLD_STATE;
-use model::OldControl;
+use states::OLD_BEHIND;
+use states::OLD_STATE;
+use states::OldControl;
 
 // The state that bytes stand for, its file lent.
 fn decode(state: &[u8; OLD_STATE], regs: &mut File) -> OldControl
     ensures { λ r. ⌜ ((a : List ℕ) → oldState (zeroed (now (regs .exit))) r a ≡ oldIn (now (state .entry)) a) ⌝ }
 {
-    model::file_in(state, OLD_BEHIND, regs);
+    states::file_in(state, OLD_BEHIND, regs);
     let nzvc = numbers::read_number(state, 128) % 16;
     let p = SourcePc(numbers::read_number(state, 132));
     let n = SourcePc(numbers::read_number(state, 136));
@@ -50,7 +50,7 @@ fn encode(regs: &mut File, c: OldControl, state: &mut [u8; OLD_STATE]) -> Ended
     let r = machine::numbers_of(e);
     let annul = machine::bit(c.annul != 0);
     let rest = [f.nzvc, p.0, n.0, annul, r.end, r.number];
-    model::put_state(state, regs, &rest);
+    states::put_state(state, regs, &rest);
     r
 }
 

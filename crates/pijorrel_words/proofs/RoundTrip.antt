@@ -13,6 +13,7 @@ use Rattle.numbers.specs.Number.{Below, signed, numberAt, bytesOf}
 use Rattle.numbers.proofs.Choice.{both, either, found-passes, found-all}
 use Rattle.numbers.proofs.Number.{number-packed}
 use Rattle.numbers.proofs.Bounds.{number-lt, extended-lt}
+use Rattle.words.proofs.Conditions.{bit-lt}
 use Rattle.words.specs.Conditions.{bitOf}
 use Rattle.words.specs.Reader.{bits, bitSet, operandOf, sources, rows0, format0Of, Format2, rows2, none2, format2Of, Format3, rows3, none3, format3Of, byFormat, instructionOf}
 use Rattle.words.specs.Writer.{arithmeticOp3, shiftOp3, windowOp3, loadOp3, storeOp3, writtenOf}
@@ -281,11 +282,6 @@ operand-again f form rd rs1 (Constant k) g e h =
       back = g .1 1 k;
     })
 
-bit-lt : (b : Bool) → bitOf b < 2 ^ 32
-unfolding bitOf
-bit-lt true = omega arith
-bit-lt false = omega arith
-
 annul-again : (cond disp : ℕ) (annul : Bool) → instructionFrom 2 (bitOf annul) cond 0 0 disp ≡ Bicc cond annul disp
 unfolding instructionFrom bitOf
 annul-again cond disp true = refl
@@ -304,7 +300,7 @@ each-again (Sethi rd imm) n h =
 each-again (Bicc cond annul disp) n h =
     let p = both (short cond) (short disp) h in
     six-again (Bicc cond annul disp) 2 (bitOf annul) cond 0 0 disp
-    (record { same = refl; low = (omega arith, (bit-lt annul, (below cond (p .0), (omega arith, (omega arith, (below disp (p .1), tt)))))); back = annul-again cond disp annul })
+    (record { same = refl; low = (omega arith, (omega (arith, bit-lt annul), (below cond (p .0), (omega arith, (omega arith, (below disp (p .1), tt)))))); back = annul-again cond disp annul })
 each-again (Arithmetic o cc rd rs1 x) n h = operand-again (Arithmetic o cc rd rs1) _ rd rs1 x (arithmetic-from o cc rd rs1) refl h
 each-again (Jmpl rd rs1 x) n h = operand-again (Jmpl rd rs1) _ rd rs1 x (jmpl-from rd rs1) refl h
 each-again (Ticc cond rs1 x) n h = operand-again (Ticc cond rs1) _ cond rs1 x (trap-from cond rs1) refl h

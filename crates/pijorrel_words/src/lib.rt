@@ -47,20 +47,20 @@ fn operand_from(mark: u32, v: u32) -> Operand
 fn write2(op3: u32, rd: u32, rs1: u32, x: Operand) -> Written
     ensures { λ r. ⌜ r ≡ writtenOf (format2Of op3 rd rd rs1 x) ⌝ }
 {
-    if words::is_form2(op3) {
+    if flows::is_form2(op3) {
         if op3 == 58 {
-            return words::trap_word(rd, rs1, x);
+            return writer::trap_word(rd, rs1, x);
         }
         if numbers::subtract(op3, 37) < 3 {
-            return words::shift_word(rd, op3, rs1, x);
+            return writer::shift_word(rd, op3, rs1, x);
         }
         if op3 == 40 {
-            return words::rdy_word(rd);
+            return writer::rdy_word(rd);
         }
         if op3 == 48 {
-            return words::wry_word(rs1, x);
+            return writer::wry_word(rs1, x);
         }
-        return words::long_word(2, rd, op3, rs1, x);
+        return writer::long_word(2, rd, op3, rs1, x);
     }
     Written::Unfit(0)
 }
@@ -74,8 +74,8 @@ fn write_by_op(form: u32, rd: u32, rs1: u32, x: Operand) -> Written
         return write2(form % 64, rd, rs1, x);
     }
     if k == 3 {
-        if words::is_form3(form % 64) {
-            return words::long_word(3, rd, form % 64, rs1, x);
+        if flows::is_form3(form % 64) {
+            return writer::long_word(3, rd, form % 64, rs1, x);
         }
     }
     Written::Unfit(0)
@@ -87,9 +87,9 @@ fn write_six(form: u32, annul: u32, rd: u32, rs1: u32, mark: u32, v: u32) -> Wri
 {
     let a = annul != 0;
     match form {
-        2 => words::branch_word(rd, a, v),
-        4 => words::sethi_word(rd, v),
-        64 => words::call_word(v),
+        2 => writer::branch_word(rd, a, v),
+        4 => writer::sethi_word(rd, v),
+        64 => writer::call_word(v),
         _ => write_by_op(form, rd, rs1, operand_from(mark, v)),
     }
 }
@@ -170,24 +170,24 @@ fn six_of(i: Instruction) -> Six
         Instruction::Illegal => plain_six(0, 0, 0, 0),
         Instruction::Call(disp) => plain_six(64, 0, 0, disp),
         Instruction::Sethi(rd, imm) => plain_six(4, 0, rd, imm),
-        Instruction::Bicc(cond, annul, disp) => plain_six(2, words::one_bit(annul), cond, disp),
+        Instruction::Bicc(cond, annul, disp) => plain_six(2, writer::one_bit(annul), cond, disp),
         Instruction::Arithmetic(o, cc, rd, rs1, x) => six_with(
-            128 + words::arithmetic_op3(o, cc),
+            128 + writer::arithmetic_op3(o, cc),
             rd,
             rs1,
             x,
         ),
         Instruction::Jmpl(rd, rs1, x) => six_with(184, rd, rs1, x),
         Instruction::Ticc(cond, rs1, x) => six_with(186, cond, rs1, x),
-        Instruction::Load(o, rd, rs1, x) => six_with(192 + words::load_op3(o), rd, rs1, x),
-        Instruction::Store(w, rd, rs1, x) => six_with(192 + words::store_op3(w), rd, rs1, x),
-        Instruction::Shift(o, rd, rs1, x) => six_with(128 + words::shift_op3(o), rd, rs1, x),
+        Instruction::Load(o, rd, rs1, x) => six_with(192 + writer::load_op3(o), rd, rs1, x),
+        Instruction::Store(w, rd, rs1, x) => six_with(192 + writer::store_op3(w), rd, rs1, x),
+        Instruction::Shift(o, rd, rs1, x) => six_with(128 + writer::shift_op3(o), rd, rs1, x),
         Instruction::Rdy(rd) => plain_six(168, 0, rd, 0),
         Instruction::Wry(s) => {
             let x = s.operand;
             six_with(176, 0, s.rs1, x)
         }
-        Instruction::Window(o, rd, rs1, x) => six_with(128 + words::window_op3(o), rd, rs1, x),
+        Instruction::Window(o, rd, rs1, x) => six_with(128 + writer::window_op3(o), rd, rs1, x),
     }
 }
 

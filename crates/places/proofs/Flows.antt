@@ -42,15 +42,6 @@ by-flow f h (Wry s) = refl
 by-flow f h (Window o rd rs1 x) = refl
 
 -- a branch that may be held: condition 0, no annul
-each : (w : Which) → idleBicc w true ≡ false
-unfolding idleBicc
-each never = refl
-each always = refl
-each depends = refl
-
-pub annuls : (cond : ℕ) (annul : Bool) → annul ≡ true → idleBicc (whichOf cond) annul ≡ false
-annuls cond annul h = rw h (each (whichOf cond))
-
 pub idle : (cond : ℕ) (annul : Bool) → annul ≡ false → eqb cond 0 ≡ idleBicc (whichOf cond) annul
 unfolding whichOf idleBicc
 idle cond annul h = rw h (by-cond (eqb cond 0))

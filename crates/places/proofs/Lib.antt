@@ -1,4 +1,3 @@
 pub mod Flows
 pub mod Rows
 pub mod Chains
-pub mod Walking

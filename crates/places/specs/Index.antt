@@ -8,11 +8,7 @@ use lib.Dec.{eqb}
 use Rattle.numbers.specs.Choice.{pick}
 use Rattle.model.specs.declared.Place.{Place}
 use Rattle.model.specs.Places.{placeAt, nextOf, samePlace}
-use Rattle.model.specs.Walk.{Walked}
-use Rattle.places.specs.declared.worklist.Found.{Found}
-use Rattle.places.specs.declared.worklist.Found.the-variants.{Places, Forbidden, NoRoom}
 use Rattle.places.specs.Table.{placeIn, ShowsIn}
-use Rattle.places.specs.Walk.{seen}
 
 unfoldable pub hashOf : ℕ → ℕ → ℕ
 hashOf p n = (p / 4 % 65536 + n / 4 % 65536 * 37) % 8192
@@ -47,14 +43,3 @@ pub record Ready (room : ℕ) (bytes : List ℕ) (n : ℕ) (heads links : List �
   pub fits : 16 * room ≤ length bytes
   pub few : room ≤ 8192
   pub index : Indexed bytes n heads links
-
--- a walk can go on from an answer that does not end it
-unfoldable pub ReadyBy : ℕ → Found → List ℕ → List ℕ → List ℕ → Type 0
-ReadyBy room (Places n) bytes heads links = Ready room bytes n heads links
-ReadyBy room (Forbidden a) bytes heads links = Unit {0}
-ReadyBy room (NoRoom a) bytes heads links = Unit {0}
-
--- an answer reads as a walk of the definitions, and the walk can go on from it
-pub record Known (room : ℕ) (w : Walked) (r : Found) (bytes heads links : List ℕ) : Type 0 where
-  pub reads : seen r bytes ≡ w
-  pub ready : ReadyBy room r bytes heads links

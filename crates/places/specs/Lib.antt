@@ -1,4 +1,3 @@
 pub mod Control
 pub mod Table
-pub mod Walk
 pub mod Index

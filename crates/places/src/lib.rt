@@ -1,6 +1,4 @@
-// The places that a program has: found from its entries, kept in a table that the caller lends, known by an index.
+// Places: what the word at one does to control, their table, which the caller lends, and its index.
 pub mod control;
 pub mod index;
 pub mod table;
-pub mod walk;
-pub mod worklist;

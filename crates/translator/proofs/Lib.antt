@@ -1,5 +1,2 @@
-pub mod Grouping
-pub mod Laying
-pub mod Putting
 pub mod Checking
 pub mod Handed

@@ -9,11 +9,8 @@ ghost use Rattle.places.specs.Table.{placesIn};
 ghost use Rattle.places.specs.Index.{Tabled};
 ghost use Rattle.translator.specs.Handing.{placesCounted, recordsCounted, handed, cleared};
 use model::Answer;
-use places::walk::find_places;
-use places::worklist::Found;
-
-pub mod layout;
-pub mod records;
+use walks::walk::find_places;
+use walks::worklist::Found;
 
 // Refusal 1.
 fn bad_length(n: usize) -> bool
@@ -86,11 +83,11 @@ fn finish(
     requires { ⌜ Tabled (now places) count (now heads) (now links) ⌝ }
     ensures { λ r. ⌜ cleared r (now (places .exit)) (now (records .exit)) ≡ fromWalk (now (image .entry)) base (length (now (places .entry))) (length (now (records .entry))) (table (placesIn (now (places .entry)) count)) ⌝ }
 {
-    let total = layout::lay_out(image, base, places, count);
+    let total = groups::layout::lay_out(image, base, places, count);
     if records.len() / 12 < total {
         return Answer::RecordsShort(total as u32);
     }
-    records::put_groups(image, base, places, heads, links, count, total, records);
+    groups::records::put_groups(image, base, places, heads, links, count, total, records);
     Answer::Accepted(count as u32, total as u32)
 }
 

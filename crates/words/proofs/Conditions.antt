@@ -112,3 +112,8 @@ low-four cond nzvc = ap (bitAt (getD rows cond 0)) (sym (nzvc-back nzvc))
 
 pub conditions-all : (cond nzvc : ℕ) → holdsOf cond nzvc ≡ getD formulas cond never (flag nzvc 8) (flag nzvc 4) (flag nzvc 2) (flag nzvc 1)
 conditions-all cond nzvc = low-four cond nzvc ∙ conditions-right cond (flag nzvc 8) (flag nzvc 4) (flag nzvc 2) (flag nzvc 1)
+
+pub bit-lt : (b : Bool) → bitOf b < 2
+unfolding bitOf
+bit-lt true = omega arith
+bit-lt false = omega arith

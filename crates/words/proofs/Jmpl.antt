@@ -1,7 +1,7 @@
 -- Laws of the reader for a jmpl alone.
 use Prim.Native.Nat.{ℕ, zero, suc}
 use mathlib.Core.Path.{_≡_, refl, sym}
-use mathlib.Core.Bool.{Bool, true, false, _||_, false≢true}
+use mathlib.Core.Bool.{Bool, true, false, _||_, or-true, false≢true}
 use lib.Dec.{eqb}
 use borrow.Author.Tests.{ne-eqb}
 use Rattle.numbers.proofs.Choice.{either, found-passes}
@@ -67,10 +67,6 @@ other-op3 op3 cond rd rs1 x n =
     second : (a b : Bool) → a ≡ false → a || b ≡ true → b ≡ true
     second true b e h = absurd (false≢true (sym e))
     second false b e h = h
-
-    or-true : (b : Bool) → b || true ≡ true
-    or-true true = refl
-    or-true false = refl
 
 pub jmpl-read : (word : ℕ) → bits word 30 2 ≡ 2 → bits word 19 6 ≡ 56
     → strictly word (Jmpl (bits word 25 5) (bits word 14 5) (operandOf word)) ≡ asJmpl (instructionOf word)

@@ -2,6 +2,5 @@ pub mod Reader
 pub mod Conditions
 pub mod Strict
 pub mod Jmpl
-pub mod Fields
 pub mod Joined
 pub mod RoundTrip

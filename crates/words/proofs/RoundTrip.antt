@@ -1,7 +1,7 @@
 -- An instruction that is not refused reads back from its word, and a known word is written again.
 use Prim.Native.Nat.{ℕ, zero, suc, _/_, _%_, _^_, _<_}
 use mathlib.Core.Path.{_≡_, refl, sym}
-use mathlib.Core.Bool.{Bool, true, false, not, _||_, false≢true}
+use mathlib.Core.Bool.{Bool, true, false, not, _||_, and-false, false≢true}
 use mathlib.Core.List.{List, [], _∷_}
 use native.Mathlib.Nat.{mod-lt, mod-eq-of-lt}
 use native.Mathlib.Omega.{arith}
@@ -30,7 +30,7 @@ use Rattle.words.specs.declared.Written.the-variants.{Fit}
 use Rattle.words.specs.Reader.{bits, bitSet, operandOf, sources, rows0, format0Of, Format2, rows2, none2, format2Of, Format3, rows3, none3, format3Of, byFormat, setFrom, registerStrays, rdyStrays, wryStrays, unusedSet, strictly, instructionOf}
 use Rattle.words.specs.Writer.{Field, plain, withSign, joined, operand, constant13, constant7, constant5, arithmeticOp3, shiftOp3, windowOp3, loadOp3, storeOp3, longWord, shiftWord, rdyWord, wryWord, trapWord, sethiWord, branchWord, callWord, writtenOf}
 use Rattle.words.specs.RoundTrip.{ReadsBack, WritesAgain}
-use Rattle.words.proofs.Strict.{and-false, or-clear}
+use Rattle.words.proofs.Strict.{or-clear}
 use Rattle.words.proofs.Joined.{total, Sounds, Has, Holds, plain-sound, sign-sound, joined-holds, joined-back, read-fits, fits-read}
 
 -- ---- the second operand

@@ -1,7 +1,7 @@
 -- Laws of the unused bits: what the reader's tests leave to test.
 use Prim.Native.Nat.{ℕ, zero, suc, _+_, _-_, _^_, _<_, _≤_}
 use mathlib.Core.Path.{_≡_, refl, sym}
-use mathlib.Core.Bool.{Bool, true, false, not, _&&_, _||_, or-true, false≢true}
+use mathlib.Core.Bool.{Bool, true, false, not, _&&_, _||_, or-true, and-false, false≢true}
 use mathlib.Core.List.{List, [], _∷_}
 use native.Mathlib.Omega.{arith}
 use lib.Dec.{eqb, leb, ltb}
@@ -111,10 +111,6 @@ beside-none op3 word h = or-clear (registerStrays word) _ h .0
 pub shift-none : (op3 word : ℕ) → operandStrays op3 word ≡ false → 37 ≤ op3 → op3 < 40 → setFrom 5 word ≡ false
 unfolding operandStrays
 shift-none op3 word h l u = rw (le-leb 37 op3 l, lt-ltb op3 40 u) at (or-clear (registerStrays word) _ h .1)
-
-pub and-false : (b : Bool) → b && false ≡ false
-and-false true = refl
-and-false false = refl
 
 pub no-bit-high : (op3 word : ℕ) → setFrom 5 word ≡ false → false ≡ operandStrays op3 word
 unfolding operandStrays registerStrays

@@ -1,20 +1,12 @@
-// SPARC V8 instruction words: the fields cut from a word, the instruction that it reads as, its word again, and the conditions.
+// SPARC V8 instruction words: the fields cut from a word, the instruction that it reads as, and the conditions.
 ghost use mathlib.Core.Path.{_≡_};
-ghost use mathlib.Core.Bool.{false, _||_};
-ghost use mathlib.Core.List.{List, [], _∷_};
-ghost use Prim.Native.Nat.{ℕ, _+_, _-_, _^_, _<_, _≤_, min};
+ghost use mathlib.Core.Bool.{_||_};
+ghost use Prim.Native.Nat.{_<_};
 ghost use Rattle.numbers.specs.Choice.{find};
 ghost use Rattle.numbers.specs.Number.{signed};
-ghost use Rattle.words.specs.declared.Operand.{Operand};
-ghost use Rattle.words.specs.declared.ShiftOperation.{ShiftOperation};
-ghost use Rattle.words.specs.declared.Sources.{Sources};
 ghost use Rattle.words.specs.declared.Instruction.the-variants.{Arithmetic, Jmpl, Ticc, Load, Store, Shift, Rdy, Wry, Window};
-ghost use Rattle.words.specs.Reader.{bits, bitSet, registerStrays, setFrom, rdyStrays, wryStrays, strictly, operandOf, sources, format0Of, none2, otherRows, format2Of, format3Of, instructionOf, isUnimp, asJmpl};
-ghost use Rattle.words.specs.Conditions.{bitAt, bitOf, holdsOf};
-ghost use Rattle.words.specs.Flow.{operandStrays, flowOf, isKnown};
-ghost use Rattle.words.specs.declared.Operand.the-variants.{Register};
-ghost use Rattle.words.specs.declared.Written.the-variants.{Fit};
-ghost use Rattle.words.specs.Writer.{Field, plain, withSign, behind, joined, operand, constant13, constant7, constant5, arithmeticOp3, shiftOp3, windowOp3, loadOp3, storeOp3, longWord, shiftWord, rdyWord, wryWord, trapWord, sethiWord, branchWord, callWord, writtenOf};
+ghost use Rattle.words.specs.Reader.{bits, bitSet, registerStrays, setFrom, rdyStrays, strictly, operandOf, sources, format0Of, none2, otherRows, format2Of, format3Of, instructionOf, isUnimp, asJmpl};
+ghost use Rattle.words.specs.Conditions.{bitAt, holdsOf};
 
 // The second operand: a register, or a constant. A shift's constant has 5 bits and a Ticc's 7; any other is a signed one of 13, extended to 32.
 pub enum Operand {
@@ -103,39 +95,60 @@ pub enum Instruction {
     Window(WindowOperation, u32, u32, Operand),
 }
 
+// What an instruction does to control: all that the rules of places and records tell apart.
+pub enum Flow {
+    // an illegal word
+    Faults,
+    Continues,
+    // a Ticc that is always taken
+    Traps,
+    // disp30
+    Calls(u32),
+    // cond, annul bit, disp22
+    Branches(u32, bool, u32),
+    // rd
+    Jumps(u32),
+}
+
+// An instruction's word, or the bits of the field that a number of it does not fit: of several, the one highest in the word.
+pub enum Written {
+    Fit(u32),
+    Unfit(u32),
+}
+
 // ---- the fields of a word, as V8 draws them
 
-fn op(word: u32) -> u32
+pub fn op(word: u32) -> u32
     ensures { λ r. ⌜ r ≡ bits word 30 2 ⌝ }
 {
     (word >> 30) & 3
 }
 
-fn op2(word: u32) -> u32
+pub fn op2(word: u32) -> u32
     ensures { λ r. ⌜ r ≡ bits word 22 3 ⌝ }
 {
     (word >> 22) & 7
 }
 
-fn op3(word: u32) -> u32
+pub fn op3(word: u32) -> u32
     ensures { λ r. ⌜ r ≡ bits word 19 6 ⌝ }
 {
     (word >> 19) & 63
 }
 
-fn cond(word: u32) -> u32
+pub fn cond(word: u32) -> u32
     ensures { λ r. ⌜ r ≡ bits word 25 4 ⌝ }
 {
     (word >> 25) & 15
 }
 
-fn annul_bit(word: u32) -> bool
+pub fn annul_bit(word: u32) -> bool
     ensures { λ r. ⌜ r ≡ bitSet word 29 ⌝ }
 {
     (word >> 29) & 1 == 1
 }
 
-fn rd(word: u32) -> u32
+pub fn rd(word: u32) -> u32
     ensures { λ r. ⌜ r ≡ bits word 25 5 ⌝ }
 {
     (word >> 25) & 31
@@ -153,7 +166,7 @@ fn rs2(word: u32) -> u32
     word & 31
 }
 
-fn constant_bit(word: u32) -> bool
+pub fn constant_bit(word: u32) -> bool
     ensures { λ r. ⌜ r ≡ bitSet word 13 ⌝ }
 {
     (word >> 13) & 1 == 1
@@ -173,14 +186,14 @@ fn simm13(word: u32) -> u32
     numbers::subtract((k + 4096) % 8192, 4096)
 }
 
-fn disp22(word: u32) -> u32
+pub fn disp22(word: u32) -> u32
     ensures { λ r. ⌜ r ≡ signed 22 (bits word 0 22) ⌝ }
 {
     let k = imm22(word);
     numbers::subtract((k + 2097152) % 4194304, 2097152)
 }
 
-fn disp30(word: u32) -> u32
+pub fn disp30(word: u32) -> u32
     ensures { λ r. ⌜ r ≡ signed 30 (bits word 0 30) ⌝ }
 {
     let k = word & 1073741823;
@@ -200,7 +213,7 @@ fn second_operand(word: u32) -> Operand
 }
 
 // Bits 12 to 5 and bits 12 to 7, which some words do not use.
-fn high8(word: u32) -> u32
+pub fn high8(word: u32) -> u32
     ensures { λ r. ⌜ r ≡ bits word 5 8 ⌝ }
 {
     (word >> 5) & 255
@@ -223,7 +236,7 @@ fn register_strays(word: u32) -> bool
 }
 
 // The same of a Ticc's constant, and of its bit 29.
-fn trap_strays(word: u32) -> bool
+pub fn trap_strays(word: u32) -> bool
     ensures { λ r. ⌜ r ≡ bitSet word 29 || setFrom 7 word ⌝ }
 {
     if annul_bit(word) {
@@ -323,7 +336,7 @@ fn low14(word: u32) -> u32
     word & 16383
 }
 
-fn rdy_strays(word: u32) -> bool
+pub fn rdy_strays(word: u32) -> bool
     ensures { λ r. ⌜ r ≡ rdyStrays word ⌝ }
 {
     if rs1(word) != 0 {
@@ -474,460 +487,6 @@ pub fn is_unimp(word: u32) -> bool
         return op2(word) == 0;
     }
     false
-}
-
-// ---- control alone
-
-// What an instruction does to control: all that the rules of places and records tell apart.
-pub enum Flow {
-    // an illegal word
-    Faults,
-    Continues,
-    // a Ticc that is always taken
-    Traps,
-    // disp30
-    Calls(u32),
-    // cond, annul bit, disp22
-    Branches(u32, bool, u32),
-    // rd
-    Jumps(u32),
-}
-
-fn flow0(word: u32) -> Flow
-    ensures { λ r. ⌜ r ≡ flowOf (format0Of word) ⌝ }
-{
-    let k = op2(word);
-    match k {
-        2 => Flow::Branches(cond(word), annul_bit(word), disp22(word)),
-        4 => Flow::Continues,
-        _ => Flow::Faults,
-    }
-}
-
-// Where a register's number or a shift's constant stands, bits 12 to 5 are unused; most words have them clear.
-fn operand_strays(op3: u32, word: u32) -> bool
-    ensures { λ r. ⌜ r ≡ operandStrays op3 word ⌝ }
-{
-    if high8(word) == 0 {
-        return false;
-    }
-    if constant_bit(word) {
-        return numbers::subtract(op3, 37) < 3;
-    }
-    true
-}
-
-fn trap_flow(cond: u32, word: u32) -> Flow
-    requires { ⌜ registerStrays word ≡ false ⌝ }
-    ensures { λ r. ⌜ ((rs1 : ℕ) (x : Operand) → r ≡ flowOf (strictly word (Ticc cond rs1 x))) ⌝ }
-{
-    if trap_strays(word) {
-        return Flow::Faults;
-    }
-    if cond == 8 {
-        return Flow::Traps;
-    }
-    Flow::Continues
-}
-
-fn rdy_flow(word: u32) -> Flow
-    ensures { λ r. ⌜ ((rd : ℕ) → r ≡ flowOf (strictly word (Rdy rd))) ⌝ }
-{
-    if rdy_strays(word) {
-        return Flow::Faults;
-    }
-    Flow::Continues
-}
-
-fn wry_flow(word: u32) -> Flow
-    requires { ⌜ registerStrays word ≡ false ⌝ }
-    ensures { λ r. ⌜ ((s : Sources) → r ≡ flowOf (strictly word (Wry s))) ⌝ }
-{
-    if rd(word) != 0 {
-        return Flow::Faults;
-    }
-    Flow::Continues
-}
-
-fn other_flow2(op3: u32, cond: u32, rd: u32, word: u32) -> Flow
-    requires { ⌜ (operandStrays op3 word ≡ false) × (op3 ≡ 40 → rdyStrays word ≡ false) × (op3 ≡ 48 → wryStrays word ≡ false) ⌝ }
-    ensures { λ r. ⌜ ((rs1 : ℕ) (x : Operand) → r ≡ flowOf (strictly word (find otherRows none2 op3 cond rd rs1 x))) ⌝ }
-{
-    match op3 {
-        37 => Flow::Continues,
-        38 => Flow::Continues,
-        39 => Flow::Continues,
-        40 => Flow::Continues,
-        48 => Flow::Continues,
-        56 => Flow::Jumps(rd),
-        58 => trap_flow(cond, word),
-        60 => Flow::Continues,
-        61 => Flow::Continues,
-        _ => Flow::Faults,
-    }
-}
-
-fn flow2(op3: u32, cond: u32, rd: u32, word: u32) -> Flow
-    requires { ⌜ (operandStrays op3 word ≡ false) × (op3 ≡ 40 → rdyStrays word ≡ false) × (op3 ≡ 48 → wryStrays word ≡ false) ⌝ }
-    ensures { λ r. ⌜ ((rs1 : ℕ) (x : Operand) → r ≡ flowOf (strictly word (format2Of op3 cond rd rs1 x))) ⌝ }
-{
-    match op3 {
-        0 => Flow::Continues,
-        1 => Flow::Continues,
-        2 => Flow::Continues,
-        3 => Flow::Continues,
-        4 => Flow::Continues,
-        5 => Flow::Continues,
-        6 => Flow::Continues,
-        7 => Flow::Continues,
-        8 => Flow::Continues,
-        10 => Flow::Continues,
-        11 => Flow::Continues,
-        12 => Flow::Continues,
-        16 => Flow::Continues,
-        17 => Flow::Continues,
-        18 => Flow::Continues,
-        19 => Flow::Continues,
-        20 => Flow::Continues,
-        21 => Flow::Continues,
-        22 => Flow::Continues,
-        23 => Flow::Continues,
-        24 => Flow::Continues,
-        26 => Flow::Continues,
-        27 => Flow::Continues,
-        28 => Flow::Continues,
-        _ => other_flow2(op3, cond, rd, word),
-    }
-}
-
-// Rdy and wry, whose unused bits are their own, are told before the others: in the arms they made `read_flow` too large to go inline.
-fn flow2_or_y(op3: u32, word: u32) -> Flow
-    requires { ⌜ operandStrays op3 word ≡ false ⌝ }
-    ensures { λ r. ⌜ ((rs1 : ℕ) (x : Operand) → r ≡ flowOf (strictly word (format2Of op3 (bits word 25 4) (bits word 25 5) rs1 x))) ⌝ }
-{
-    if op3 == 40 {
-        return rdy_flow(word);
-    }
-    if op3 == 48 {
-        return wry_flow(word);
-    }
-    flow2(op3, cond(word), rd(word), word)
-}
-
-fn flow3(op3: u32) -> Flow
-    ensures { λ r. ⌜ ((rd rs1 : ℕ) (x : Operand) → r ≡ flowOf (format3Of op3 rd rs1 x)) ⌝ }
-{
-    match op3 {
-        0 => Flow::Continues,
-        1 => Flow::Continues,
-        2 => Flow::Continues,
-        4 => Flow::Continues,
-        5 => Flow::Continues,
-        6 => Flow::Continues,
-        9 => Flow::Continues,
-        10 => Flow::Continues,
-        _ => Flow::Faults,
-    }
-}
-
-// What a word does to control. The translator asks no more of a word, and an operand that is not read costs nothing.
-pub fn read_flow(word: u32) -> Flow
-    ensures { λ r. ⌜ r ≡ flowOf (instructionOf word) ⌝ }
-{
-    let k = op(word);
-    if k < 2 {
-        if k == 0 {
-            return flow0(word);
-        }
-        return Flow::Calls(disp30(word));
-    }
-    if operand_strays(op3(word), word) {
-        return Flow::Faults;
-    }
-    if k == 2 {
-        return flow2_or_y(op3(word), word);
-    }
-    flow3(op3(word))
-}
-
-// Whether a flow is that of a known word.
-fn is_known(f: Flow) -> bool
-    ensures { λ r. ⌜ r ≡ isKnown f ⌝ }
-{
-    match f {
-        Flow::Faults => false,
-        _ => true,
-    }
-}
-
-// Whether a word of format 2 or 3 with this op3 is known, where no unused bit is set.
-pub fn is_form2(op3: u32) -> bool
-    ensures { λ r. ⌜ ((rs1 : ℕ) (x : Operand) → r ≡ isKnown (flowOf (format2Of op3 0 0 rs1 x))) ⌝ }
-{
-    is_known(flow2(op3, 0, 0, 0))
-}
-
-pub fn is_form3(op3: u32) -> bool
-    ensures { λ r. ⌜ ((rd rs1 : ℕ) (x : Operand) → r ≡ isKnown (flowOf (format3Of op3 rd rs1 x))) ⌝ }
-{
-    is_known(flow3(op3))
-}
-
-// ---- the writer
-
-// An instruction's word, or the bits of the field that a number of it does not fit: of several, the one highest in the word.
-pub enum Written {
-    Fit(u32),
-    Unfit(u32),
-}
-
-// The bits so far with a field of so many bits behind them.
-fn put_field(w: Written, width: u32, v: u32) -> Written
-    requires { ⌜ width < 32 ⌝ }
-    ensures { λ r. ⌜ r ≡ behind w (plain width v) ⌝ }
-{
-    match w {
-        Written::Fit(word) => {
-            if v >> width == 0 {
-                let joined = numbers::add(word << width, v);
-                return Written::Fit(joined);
-            }
-            Written::Unfit(width)
-        }
-        Written::Unfit(n) => Written::Unfit(n),
-    }
-}
-
-// The same for a signed number; half is the weight of the field's sign bit. A number that does not fit goes on as one that does not.
-fn put_signed(w: Written, width: u32, half: u32, v: u32) -> Written
-    requires { ⌜ (width < 32) × (half ≡ 2 ^ (width - 1)) × (half + half ≡ 2 ^ width) × (half ≤ 1073741824) × (0 < half) ⌝ }
-    ensures { λ r. ⌜ r ≡ behind w (withSign width v) ⌝ }
-{
-    let whole = half + half;
-    if v < half {
-        return put_field(w, width, v);
-    }
-    if 4294967295 - half < v {
-        return put_field(w, width, v % whole);
-    }
-    put_field(w, width, whole)
-}
-
-// A register's number in 32 bits; one that no register has stays such a one.
-fn narrow(i: usize) -> u32
-    ensures { λ r. ⌜ r ≡ min i 32 ⌝ }
-{
-    if i < 32 {
-        return i as u32;
-    }
-    32
-}
-
-fn put_register(w: Written, i: usize) -> Written
-    ensures { λ r. ⌜ ((f : ℕ → List Field) → r ≡ joined w (operand f (Register i))) ⌝ }
-{
-    put_field(put_field(put_field(w, 1, 0), 8, 0), 5, narrow(i))
-}
-
-// The second operand, its constant a signed one of 13 bits, one of 5 and one of 7.
-fn put_operand13(w: Written, x: Operand) -> Written
-    ensures { λ r. ⌜ r ≡ joined w (operand constant13 x) ⌝ }
-{
-    match x {
-        Operand::Register(i) => put_register(w, i),
-        Operand::Constant(k) => put_signed(put_field(w, 1, 1), 13, 4096, k),
-    }
-}
-
-fn put_operand5(w: Written, x: Operand) -> Written
-    ensures { λ r. ⌜ r ≡ joined w (operand constant5 x) ⌝ }
-{
-    match x {
-        Operand::Register(i) => put_register(w, i),
-        Operand::Constant(k) => put_field(put_field(put_field(w, 1, 1), 8, 0), 5, k),
-    }
-}
-
-fn put_operand7(w: Written, x: Operand) -> Written
-    ensures { λ r. ⌜ r ≡ joined w (operand constant7 x) ⌝ }
-{
-    match x {
-        Operand::Register(i) => put_register(w, i),
-        Operand::Constant(k) => put_field(put_field(put_field(w, 1, 1), 6, 0), 7, k),
-    }
-}
-
-// op, rd, op3 and rs1.
-fn upper(op: u32, rd: u32, op3: u32, rs1: u32) -> Written
-    ensures { λ r. ⌜ r ≡ joined (Fit op) (plain 5 rd ∷ plain 6 op3 ∷ plain 5 rs1 ∷ []) ⌝ }
-{
-    let w = Written::Fit(op);
-    put_field(put_field(put_field(w, 5, rd), 6, op3), 5, rs1)
-}
-
-pub fn long_word(op: u32, rd: u32, op3: u32, rs1: u32, x: Operand) -> Written
-    ensures { λ r. ⌜ r ≡ longWord op rd op3 rs1 x ⌝ }
-{
-    put_operand13(upper(op, rd, op3, rs1), x)
-}
-
-pub fn shift_word(rd: u32, op3: u32, rs1: u32, x: Operand) -> Written
-    ensures { λ r. ⌜ r ≡ shiftWord rd op3 rs1 x ⌝ }
-{
-    put_operand5(upper(2, rd, op3, rs1), x)
-}
-
-// What they do not use is written as 0: rs1 and the second operand of a rdy, rd of a wry.
-pub fn rdy_word(rd: u32) -> Written
-    ensures { λ r. ⌜ r ≡ rdyWord rd ⌝ }
-{
-    long_word(2, rd, 40, 0, Operand::Register(0))
-}
-
-pub fn wry_word(rs1: u32, x: Operand) -> Written
-    ensures { λ r. ⌜ r ≡ wryWord rs1 x ⌝ }
-{
-    long_word(2, 0, 48, rs1, x)
-}
-
-pub fn trap_word(cond: u32, rs1: u32, x: Operand) -> Written
-    ensures { λ r. ⌜ r ≡ trapWord cond rs1 x ⌝ }
-{
-    let w = Written::Fit(2);
-    let first = put_field(put_field(w, 1, 0), 4, cond);
-    put_operand7(put_field(put_field(first, 6, 58), 5, rs1), x)
-}
-
-pub fn sethi_word(rd: u32, imm: u32) -> Written
-    ensures { λ r. ⌜ r ≡ sethiWord rd imm ⌝ }
-{
-    let w = Written::Fit(0);
-    put_field(put_field(put_field(w, 5, rd), 3, 4), 22, imm)
-}
-
-pub fn one_bit(b: bool) -> u32
-    ensures { λ r. ⌜ r ≡ bitOf b ⌝ }
-{
-    if b {
-        return 1;
-    }
-    0
-}
-
-pub fn branch_word(cond: u32, annul: bool, disp: u32) -> Written
-    ensures { λ r. ⌜ r ≡ branchWord cond annul disp ⌝ }
-{
-    let w = Written::Fit(0);
-    let first = put_field(put_field(w, 1, one_bit(annul)), 4, cond);
-    put_signed(put_field(first, 3, 2), 22, 2097152, disp)
-}
-
-pub fn call_word(disp: u32) -> Written
-    ensures { λ r. ⌜ r ≡ callWord disp ⌝ }
-{
-    let w = Written::Fit(1);
-    put_signed(w, 30, 536870912, disp)
-}
-
-fn plain_op3(o: Operation) -> u32
-    ensures { λ r. ⌜ (r ≡ arithmeticOp3 o false) × (r < 16) ⌝ }
-{
-    match o {
-        Operation::Add => 0,
-        Operation::And => 1,
-        Operation::Or => 2,
-        Operation::Xor => 3,
-        Operation::Sub => 4,
-        Operation::Andn => 5,
-        Operation::Orn => 6,
-        Operation::Xnor => 7,
-        Operation::Addx => 8,
-        Operation::Umul => 10,
-        Operation::Smul => 11,
-        Operation::Subx => 12,
-    }
-}
-
-// The flag form has bit 4 of op3 set.
-pub fn arithmetic_op3(o: Operation, cc: bool) -> u32
-    ensures { λ r. ⌜ (r ≡ arithmeticOp3 o cc) × (r < 64) ⌝ }
-{
-    let k = plain_op3(o);
-    if cc {
-        return k + 16;
-    }
-    k
-}
-
-pub fn shift_op3(o: ShiftOperation) -> u32
-    ensures { λ r. ⌜ (r ≡ shiftOp3 o) × (r < 64) ⌝ }
-{
-    match o {
-        ShiftOperation::Sll => 37,
-        ShiftOperation::Srl => 38,
-        ShiftOperation::Sra => 39,
-    }
-}
-
-pub fn window_op3(o: WindowOperation) -> u32
-    ensures { λ r. ⌜ (r ≡ windowOp3 o) × (r < 64) ⌝ }
-{
-    match o {
-        WindowOperation::Save => 60,
-        WindowOperation::Restore => 61,
-    }
-}
-
-pub fn load_op3(o: LoadOperation) -> u32
-    ensures { λ r. ⌜ (r ≡ loadOp3 o) × (r < 64) ⌝ }
-{
-    match o {
-        LoadOperation::Ld => 0,
-        LoadOperation::Ldub => 1,
-        LoadOperation::Lduh => 2,
-        LoadOperation::Ldsb => 9,
-        LoadOperation::Ldsh => 10,
-    }
-}
-
-pub fn store_op3(w: Width) -> u32
-    ensures { λ r. ⌜ (r ≡ storeOp3 w) × (r < 64) ⌝ }
-{
-    match w {
-        Width::Byte => 5,
-        Width::Half => 6,
-        Width::Word => 4,
-    }
-}
-
-// The word of an instruction, unused bits 0. What is no instruction is refused with 0 bits.
-pub fn write_instruction(i: Instruction) -> Written
-    ensures { λ r. ⌜ r ≡ writtenOf i ⌝ }
-{
-    match i {
-        Instruction::Illegal => Written::Unfit(0),
-        Instruction::Call(disp) => call_word(disp),
-        Instruction::Sethi(rd, imm) => sethi_word(rd, imm),
-        Instruction::Bicc(cond, annul, disp) => branch_word(cond, annul, disp),
-        Instruction::Arithmetic(o, cc, rd, rs1, x) => long_word(
-            2,
-            rd,
-            arithmetic_op3(o, cc),
-            rs1,
-            x,
-        ),
-        Instruction::Jmpl(rd, rs1, x) => long_word(2, rd, 56, rs1, x),
-        Instruction::Ticc(cond, rs1, x) => trap_word(cond, rs1, x),
-        Instruction::Load(o, rd, rs1, x) => long_word(3, rd, load_op3(o), rs1, x),
-        Instruction::Store(w, rd, rs1, x) => long_word(3, rd, store_op3(w), rs1, x),
-        Instruction::Shift(o, rd, rs1, x) => shift_word(rd, shift_op3(o), rs1, x),
-        Instruction::Rdy(rd) => rdy_word(rd),
-        Instruction::Wry(s) => {
-            let x = s.operand;
-            wry_word(s.rs1, x)
-        }
-        Instruction::Window(o, rd, rs1, x) => long_word(2, rd, window_op3(o), rs1, x),
-    }
 }
 
 // ---- conditions

@@ -3,30 +3,6 @@ use borrow.Author.Needs.{needs}
 use Rattle.cases.proofs.check.Statement.{statement}
 use Rattle.cases.proofs.check.Tie as tie
 
-enum-known-kind : tie.Need-enum-known-kind
-enum-known-kind c = search needs
-
-check-run-requires : tie.Need-check-run-requires
-check-run-requires c κs = search needs
-
-enum-told : tie.Need-enum-told
-enum-told c = search needs
-
-check-requires : tie.Need-check-requires
-check-requires c κs = search needs
-
-enum-told-2 : tie.Need-enum-told-2
-enum-told-2 c = search needs
-
-check-requires-2 : tie.Need-check-requires-2
-check-requires-2 c κs = search needs
-
-enum-told-3 : tie.Need-enum-told-3
-enum-told-3 c = search needs
-
-check-requires-3 : tie.Need-check-requires-3
-check-requires-3 c κs = search needs
-
 returns : tie.Need-returns
 unfolding found
 returns c = rw (c .before .before .kind .given .1) (c .check-run .ensures)
@@ -47,15 +23,5 @@ pub check-spec : {M : Type 1} → statement M
 check-spec =
     tie.close
     (tie.spec
-    enum-known-kind
-    check-run-requires
-    enum-told
-    check-requires
-    enum-told-2
-    check-requires-2
-    enum-told-3
-    check-requires-3
-    returns
-    returns-2
-    returns-3
-    returns-4)
+    (λ c. search needs) (λ c κs. search needs) (λ c. search needs) (λ c κs. search needs) (λ c. search needs)
+    (λ c κs. search needs) (λ c. search needs) (λ c κs. search needs) returns returns-2 returns-3 returns-4)

@@ -1,43 +1,13 @@
 use Rattle.cases.proofs.Verdicts.{ran-by}
-use Rattle.cases.proofs.Areas.{start-length}
+use Rattle.case_files.proofs.Areas.{start-length}
 use Rattle.cases.specs.Kinds.{ranIn}
 use mathlib.Core.Path.{_∙_}
 use borrow.Author.Needs.{needs}
 use Rattle.cases.proofs.check_run.Statement.{statement}
 use Rattle.cases.proofs.check_run.Tie as tie
 
-space-requires : tie.Need-space-requires
-space-requires c κs = search needs
-
-data-size-requires : tie.Need-data-size-requires
-data-size-requires c κs = search needs
-
-least-requires : tie.Need-least-requires
-least-requires c κs = search needs
-
-array-borrow-prefix-zeros : tie.Need-array-borrow-prefix-zeros
-array-borrow-prefix-zeros c = search needs
-
 slice-aggregate-area : tie.Need-slice-aggregate-area
 slice-aggregate-area c = start-length _ 65552 0 (c .before .before .before .space .ensures) (c .before .least .ensures)
-
-enum-told : tie.Need-enum-told
-enum-told c = search needs
-
-check-requires : tie.Need-check-requires
-check-requires c κs = search needs
-
-enum-told-2 : tie.Need-enum-told-2
-enum-told-2 c = search needs
-
-check-requires-2 : tie.Need-check-requires-2
-check-requires-2 c κs = search needs
-
-enum-told-3 : tie.Need-enum-told-3
-enum-told-3 c = search needs
-
-check-requires-3 : tie.Need-check-requires-3
-check-requires-3 c κs = search needs
 
 returns : tie.Need-returns
 unfolding ranIn
@@ -58,17 +28,6 @@ pub check-run-spec : {M : Type 1} → statement M
 check-run-spec =
     tie.close
     (tie.spec
-    space-requires
-    data-size-requires
-    least-requires
-    array-borrow-prefix-zeros
-    slice-aggregate-area
-    enum-told
-    check-requires
-    enum-told-2
-    check-requires-2
-    enum-told-3
-    check-requires-3
-    returns
-    returns-2
-    returns-3)
+    (λ c κs. search needs) (λ c κs. search needs) (λ c κs. search needs) (λ c. search needs) slice-aggregate-area
+    (λ c. search needs) (λ c κs. search needs) (λ c. search needs) (λ c κs. search needs) (λ c. search needs)
+    (λ c κs. search needs) returns returns-2 returns-3)

@@ -3,42 +3,6 @@ use borrow.Author.Needs.{needs}
 use Rattle.cases.proofs.data_size.Statement.{statement}
 use Rattle.cases.proofs.data_size.Tie as tie
 
-enum-told : tie.Need-enum-told
-enum-told c = search needs
-
-add-number : tie.Need-add-number
-add-number c = search needs
-
-number-requires : tie.Need-number-requires
-number-requires c κs = search needs
-
-cast-result : tie.Need-cast-result
-cast-result c = search needs
-
-enum-told-2 : tie.Need-enum-told-2
-enum-told-2 c = search needs
-
-add-number-2 : tie.Need-add-number-2
-add-number-2 c = search needs
-
-number-requires-2 : tie.Need-number-requires-2
-number-requires-2 c κs = search needs
-
-cast-result-2 : tie.Need-cast-result-2
-cast-result-2 c = search needs
-
-enum-told-3 : tie.Need-enum-told-3
-enum-told-3 c = search needs
-
-add-number-3 : tie.Need-add-number-3
-add-number-3 c = search needs
-
-number-requires-3 : tie.Need-number-requires-3
-number-requires-3 c κs = search needs
-
-cast-result-3 : tie.Need-cast-result-3
-cast-result-3 c = search needs
-
 returns : tie.Need-returns
 unfolding sizeAt
 returns c = rw (c .before .enum-told .given .1) (c .number .ensures)
@@ -55,18 +19,6 @@ pub data-size-spec : {M : Type 1} → statement M
 data-size-spec =
     tie.close
     (tie.spec
-    enum-told
-    add-number
-    number-requires
-    cast-result
-    enum-told-2
-    add-number-2
-    number-requires-2
-    cast-result-2
-    enum-told-3
-    add-number-3
-    number-requires-3
-    cast-result-3
-    returns
-    returns-2
-    returns-3)
+    (λ c. search needs) (λ c. search needs) (λ c κs. search needs) (λ c. search needs) (λ c. search needs)
+    (λ c. search needs) (λ c κs. search needs) (λ c. search needs) (λ c. search needs) (λ c. search needs)
+    (λ c κs. search needs) (λ c. search needs) returns returns-2 returns-3)

@@ -13,11 +13,8 @@ in-words : (p disp : ℕ) → plus p (disp * 4 % 2 ^ 32) ≡ target p disp
 unfolding plus target
 in-words p disp = add-mod-mod p (disp * 4) (2 ^ 32) ∙ omega arith
 
-further-requires : tie.Need-further-requires
-further-requires c κs = search needs
-
 returns : tie.Need-returns
 returns c = c .further .ensures ∙ in-words _ _
 
 pub target-spec : {M : Type 1} → statement M
-target-spec = tie.close (tie.spec further-requires returns)
+target-spec = tie.close (tie.spec (λ c κs. search needs) returns)

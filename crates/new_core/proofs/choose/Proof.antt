@@ -5,25 +5,13 @@ use borrow.Author.Needs.{needs}
 use Rattle.new_core.proofs.choose.Statement.{statement}
 use Rattle.new_core.proofs.choose.Tie as tie
 
-holds-requires : tie.Need-holds-requires
-holds-requires c κs = search needs
-
-go-to-requires : tie.Need-go-to-requires
-go-to-requires c κs = search needs
-
 returns : tie.Need-returns
 unfolding chooses settle
 returns c = λ rs a. rw (le-leb _ _ (c .before .before .before .if1 .taken), ← c .before .before .holds .ensures, c .before .if2 .taken) (c .go-to .ensures rs a)
 
-follow-requires : tie.Need-follow-requires
-follow-requires c κs = search needs
-
 returns-2 : tie.Need-returns-2
 unfolding chooses settle
 returns-2 c = λ rs a. rw (le-leb _ _ (c .before .before .before .if1 .taken), ← c .before .before .holds .ensures, c .before .if2 .left) (c .follow .ensures rs a)
-
-bad-requires : tie.Need-bad-requires
-bad-requires c κs = search needs
 
 returns-3 : tie.Need-returns-3
 unfolding chooses
@@ -33,10 +21,5 @@ pub choose-spec : {M : Type 1} → statement M
 choose-spec =
     tie.close
     (tie.spec
-    holds-requires
-    go-to-requires
-    returns
-    follow-requires
-    returns-2
-    bad-requires
+    (λ c κs. search needs) (λ c κs. search needs) returns (λ c κs. search needs) returns-2 (λ c κs. search needs)
     returns-3)

@@ -1,22 +1,10 @@
-use Rattle.machine.proofs.Effects.{effects-end, after-effect}
-use Rattle.machine.specs.Effect.{machine, Machine}
+use Rattle.effects.proofs.Effects.{effects-end, after-effect}
+use Rattle.effects.specs.Effect.{machine, Machine}
 use Rattle.model.specs.NewCore.{following, new}
 use mathlib.Core.Path.{_∙_}
 use borrow.Author.Needs.{needs}
 use Rattle.new_core.proofs.do_effect.Statement.{statement}
 use Rattle.new_core.proofs.do_effect.Tie as tie
-
-perform-requires : tie.Need-perform-requires
-perform-requires c κs = search needs
-
-is-going-requires : tie.Need-is-going-requires
-is-going-requires c κs = search needs
-
-follow-requires : tie.Need-follow-requires
-follow-requires c κs = search needs
-
-same-length : tie.Need-same-length
-same-length c = search needs
 
 returns : tie.Need-returns
 returns c = let done = c .before .before .before .before .before in
@@ -24,12 +12,6 @@ returns c = let done = c .before .before .before .before .before in
     let m = machine (k .regs .now) (k .c .flags .nzvc) (k .area .now) in
     let e = after-effect (λ (x : Machine). new x (k .c .at .0) (k .c .held .0)) (following (k .c .at .0) (k .c .held .0)) _ _ _ _ _ _ _ _ (effects-end (k .db) (k .i) m) (done .perform .ensures) in
     c .follow .ensures _ _ ∙ (rw (← c .before .before .is-going .ensures, c .before .if1 .taken) at e)
-
-stop-requires : tie.Need-stop-requires
-stop-requires c κs = search needs
-
-same-length-2 : tie.Need-same-length-2
-same-length-2 c = search needs
 
 returns-2 : tie.Need-returns-2
 returns-2 c = let done = c .before .before .before .before .before in
@@ -42,11 +24,5 @@ pub do-effect-spec : {M : Type 1} → statement M
 do-effect-spec =
     tie.close
     (tie.spec
-    perform-requires
-    is-going-requires
-    follow-requires
-    same-length
-    returns
-    stop-requires
-    same-length-2
-    returns-2)
+    (λ c κs. search needs) (λ c κs. search needs) (λ c κs. search needs) (λ c. search needs) returns
+    (λ c κs. search needs) (λ c. search needs) returns-2)

@@ -7,27 +7,9 @@ use borrow.Author.Needs.{needs}
 use Rattle.new_core.proofs.hold.Statement.{statement}
 use Rattle.new_core.proofs.hold.Tie as tie
 
-enum-known-i : tie.Need-enum-known-i
-enum-known-i c = search needs
-
-address-requires : tie.Need-address-requires
-address-requires c κs = search needs
-
-put-requires : tie.Need-put-requires
-put-requires c κs = search needs
-
-next-record-requires : tie.Need-next-record-requires
-next-record-requires c κs = search needs
-
 returns : tie.Need-returns
 unfolding holds transferOf settle following endingOf
 returns c = λ a. rw (c .before .before .before .before .before .before .before .i .given .1, ← c .before .before .before .before .address .ensures, eq-eqb _ _ (c .before .before .before .if1 .taken), ← c .before .put .ensures, ← c .next-record .ensures)
-
-stop-requires : tie.Need-stop-requires
-stop-requires c κs = search needs
-
-bad-requires : tie.Need-bad-requires
-bad-requires c κs = search needs
 
 returns-2 : tie.Need-returns-2
 unfolding holds transferOf settle endingOf
@@ -40,12 +22,5 @@ pub hold-spec : {M : Type 1} → statement M
 hold-spec =
     tie.close
     (tie.spec
-    enum-known-i
-    address-requires
-    put-requires
-    next-record-requires
-    returns
-    stop-requires
-    bad-requires
-    returns-2
-    returns-3)
+    (λ c. search needs) (λ c κs. search needs) (λ c κs. search needs) (λ c κs. search needs) returns
+    (λ c κs. search needs) (λ c κs. search needs) returns-2 returns-3)

@@ -4,9 +4,6 @@ use borrow.Author.Needs.{needs}
 use Rattle.new_core.proofs.lost_at.Statement.{statement}
 use Rattle.new_core.proofs.lost_at.Tie as tie
 
-in-image-requires : tie.Need-in-image-requires
-in-image-requires c κs = search needs
-
 returns : tie.Need-returns
 unfolding lost endingOf
 returns c = rw (← c .before .in-image .ensures, c .if1 .taken)
@@ -16,4 +13,4 @@ unfolding lost endingOf
 returns-2 c = rw (← c .before .in-image .ensures, c .if1 .left)
 
 pub lost-at-spec : {M : Type 1} → statement M
-lost-at-spec = tie.close (tie.spec in-image-requires returns returns-2)
+lost-at-spec = tie.close (tie.spec (λ c κs. search needs) returns returns-2)

@@ -15,66 +15,6 @@ this-record : (b : tie.After-read-number2) →
     recordAt (k .records .now) (k .c .at .0) ≡ recordOf (b .before .read-number .result) (b .read-number2 .result) (numberAt (k .records .now) (k .at + 8))
 this-record b = read-as _ _ _ _ _ (b .before .before .before .before .before .before .pre .0) (b .before .read-number .ensures) (b .read-number2 .ensures)
 
-read-number-requires : tie.Need-read-number-requires
-read-number-requires c κs = search needs
-
-add-read-number : tie.Need-add-read-number
-add-read-number c = search needs
-
-read-number-requires-2 : tie.Need-read-number-requires-2
-read-number-requires-2 c κs = search needs
-
-read-instruction-requires : tie.Need-read-instruction-requires
-read-instruction-requires c κs = search needs
-
-do-word-requires : tie.Need-do-word-requires
-do-word-requires c κs = search needs
-
-link-requires : tie.Need-link-requires
-link-requires c κs = search needs
-
-read-jmpl-requires : tie.Need-read-jmpl-requires
-read-jmpl-requires c κs = search needs
-
-add-read-number-2 : tie.Need-add-read-number-2
-add-read-number-2 c = search needs
-
-read-number-requires-3 : tie.Need-read-number-requires-3
-read-number-requires-3 c κs = search needs
-
-hold-requires : tie.Need-hold-requires
-hold-requires c κs = search needs
-
-add-read-number-3 : tie.Need-add-read-number-3
-add-read-number-3 c = search needs
-
-read-number-requires-4 : tie.Need-read-number-requires-4
-read-number-requires-4 c κs = search needs
-
-choose-requires : tie.Need-choose-requires
-choose-requires c κs = search needs
-
-go-to-requires : tie.Need-go-to-requires
-go-to-requires c κs = search needs
-
-go-held-requires : tie.Need-go-held-requires
-go-held-requires c κs = search needs
-
-add-read-number-4 : tie.Need-add-read-number-4
-add-read-number-4 c = search needs
-
-read-number-requires-5 : tie.Need-read-number-requires-5
-read-number-requires-5 c κs = search needs
-
-stop-as-requires : tie.Need-stop-as-requires
-stop-as-requires c κs = search needs
-
-bad-requires : tie.Need-bad-requires
-bad-requires c κs = search needs
-
-same-length : tie.Need-same-length
-same-length c = search needs
-
 returns : tie.Need-returns
 unfolding does recordOf doesWord
 returns c = rw (this-record (c .before .before .before .before .before .before .before), c .before .before .before .before .before .before .match .keys1, ← c .before .before .before .before .before .read-instruction .ensures) (c .before .before .do-word .ensures)
@@ -111,31 +51,8 @@ pub obey-spec : {M : Type 1} → statement M
 obey-spec =
     tie.close
     (tie.spec
-    read-number-requires
-    add-read-number
-    read-number-requires-2
-    read-instruction-requires
-    do-word-requires
-    link-requires
-    read-jmpl-requires
-    add-read-number-2
-    read-number-requires-3
-    hold-requires
-    add-read-number-3
-    read-number-requires-4
-    choose-requires
-    go-to-requires
-    go-held-requires
-    add-read-number-4
-    read-number-requires-5
-    stop-as-requires
-    bad-requires
-    same-length
-    returns
-    returns-2
-    returns-3
-    returns-4
-    returns-5
-    returns-6
-    returns-7
-    returns-8)
+    (λ c κs. search needs) (λ c. search needs) (λ c κs. search needs) (λ c κs. search needs) (λ c κs. search needs)
+    (λ c κs. search needs) (λ c κs. search needs) (λ c. search needs) (λ c κs. search needs) (λ c κs. search needs)
+    (λ c. search needs) (λ c κs. search needs) (λ c κs. search needs) (λ c κs. search needs) (λ c κs. search needs)
+    (λ c. search needs) (λ c κs. search needs) (λ c κs. search needs) (λ c κs. search needs) (λ c. search needs)
+    returns returns-2 returns-3 returns-4 returns-5 returns-6 returns-7 returns-8)

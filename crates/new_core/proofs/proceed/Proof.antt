@@ -4,24 +4,9 @@ use borrow.Author.Needs.{needs}
 use Rattle.new_core.proofs.proceed.Statement.{statement}
 use Rattle.new_core.proofs.proceed.Tie as tie
 
-cast-n : tie.Need-cast-n
-cast-n c = search needs
-
-mul-obey : tie.Need-mul-obey
-mul-obey c = search needs
-
-obey-requires : tie.Need-obey-requires
-obey-requires c κs = search needs
-
-same-length : tie.Need-same-length
-same-length c = search needs
-
 returns : tie.Need-returns
 unfolding newNext
 returns c = rw (at-hand _ _ (c .before .before .before .before .before .if1 .taken)) (c .before .before .obey .ensures)
-
-bad-requires : tie.Need-bad-requires
-bad-requires c κs = search needs
 
 returns-2 : tie.Need-returns-2
 unfolding newNext does
@@ -29,4 +14,7 @@ returns-2 c = rw (past-last _ _ (c .before .if1 .left)) (c .bad .ensures _ _)
 
 pub proceed-spec : {M : Type 1} → statement M
 proceed-spec =
-    tie.close (tie.spec cast-n mul-obey obey-requires same-length returns bad-requires returns-2)
+    tie.close
+    (tie.spec
+    (λ c. search needs) (λ c. search needs) (λ c κs. search needs) (λ c. search needs) returns (λ c κs. search needs)
+    returns-2)

@@ -20,34 +20,10 @@ abbrev μ-loop : tie.MeasureT-loop
 loop-holds : tie.Need-loop-holds Inv-loop μ-loop
 loop-holds c = (omega arith, refl)
 
-mul-at : tie.Need-mul-at Inv-loop μ-loop
-mul-at c = search needs
-
-read-number-requires : tie.Need-read-number-requires Inv-loop μ-loop
-read-number-requires c κs = search needs
-
-add-read-number : tie.Need-add-read-number Inv-loop μ-loop
-add-read-number c = search needs
-
-read-number-requires-2 : tie.Need-read-number-requires-2 Inv-loop μ-loop
-read-number-requires-2 c κs = search needs
-
-add-read-number-2 : tie.Need-add-read-number-2 Inv-loop μ-loop
-add-read-number-2 c = search needs
-
-read-number-requires-3 : tie.Need-read-number-requires-3 Inv-loop μ-loop
-read-number-requires-3 c κs = search needs
-
 returns : tie.Need-returns Inv-loop μ-loop
 unfolding soughtOf
 returns c = let b = c .before .before .before .before .before .before .before .loop in
     rw (c .read-number3 .ensures) (sym (sought-here _ _ _ (omega arith) (sym (c .before .before .read-number2 .ensures) ∙ c .before .if2 .taken) (sym (c .before .before .before .before .before .read-number .ensures) ∙ c .before .before .before .if1 .taken)) ∙ b .inv .1)
-
-add-i : tie.Need-add-i Inv-loop μ-loop
-add-i c = search needs
-
-loop-less : tie.Need-loop-less Inv-loop μ-loop
-loop-less c = search needs
 
 loop-again : tie.Need-loop-again Inv-loop μ-loop
 loop-again c = let b = c .before .before .before .before .loop in
@@ -67,17 +43,5 @@ pub search-spec : {M : Type 1} → statement M
 search-spec =
     tie.close
     (tie.spec
-    Inv-loop
-    μ-loop
-    loop-holds
-    mul-at
-    read-number-requires
-    add-read-number
-    read-number-requires-2
-    add-read-number-2
-    read-number-requires-3
-    returns
-    add-i
-    loop-less
-    loop-again
-    returns-2)
+    Inv-loop μ-loop loop-holds (λ c. search needs) (λ c κs. search needs) (λ c. search needs) (λ c κs. search needs)
+    (λ c. search needs) (λ c κs. search needs) returns (λ c. search needs) (λ c. search needs) loop-again returns-2)

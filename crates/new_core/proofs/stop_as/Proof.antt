@@ -5,15 +5,6 @@ use borrow.Author.Needs.{needs}
 use Rattle.new_core.proofs.stop_as.Statement.{statement}
 use Rattle.new_core.proofs.stop_as.Tie as tie
 
-stop-requires : tie.Need-stop-requires
-stop-requires c κs = search needs
-
-stop-requires-2 : tie.Need-stop-requires-2
-stop-requires-2 c κs = search needs
-
-bad-requires : tie.Need-bad-requires
-bad-requires c κs = search needs
-
 returns : tie.Need-returns
 unfolding stops settle endingOf
 returns c = λ rs a. rw (c .before .match .keys1) (c .stop .ensures rs a)
@@ -28,4 +19,6 @@ returns-3 c = λ rs a. let n = c .before .match .rest in rw (ne-eqb _ 2 (n .0 .1
 
 pub stop-as-spec : {M : Type 1} → statement M
 stop-as-spec =
-    tie.close (tie.spec stop-requires stop-requires-2 bad-requires returns returns-2 returns-3)
+    tie.close
+    (tie.spec
+    (λ c κs. search needs) (λ c κs. search needs) (λ c κs. search needs) returns returns-2 returns-3)

@@ -18,27 +18,6 @@ abbrev μ-loop : tie.MeasureT-loop
 loop-holds : tie.Need-loop-holds Inv-loop μ-loop
 loop-holds c = (omega arith, paste-zero _ (c .before .before .args .at) (bytesOf (c .before .before .args .list .now)), refl)
 
-mul-write-number : tie.Need-mul-write-number Inv-loop μ-loop
-mul-write-number c = search needs
-
-add-write-number : tie.Need-add-write-number Inv-loop μ-loop
-add-write-number c = search needs
-
-mul-write-number-2 : tie.Need-mul-write-number-2 Inv-loop μ-loop
-mul-write-number-2 c = search needs
-
-shared-slice-read-write-number : tie.Need-shared-slice-read-write-number Inv-loop μ-loop
-shared-slice-read-write-number c = search needs
-
-write-number-requires : tie.Need-write-number-requires Inv-loop μ-loop
-write-number-requires c κs = search needs
-
-add-i : tie.Need-add-i Inv-loop μ-loop
-add-i c = search needs
-
-loop-less : tie.Need-loop-less Inv-loop μ-loop
-loop-less c = search needs
-
 loop-again : tie.Need-loop-again Inv-loop μ-loop
 loop-again c = let b = c .before .before .before .before .before .before .loop in
     let h : b .i < length (c .before .before .before .before .before .before .before .before .before .args .list .now) = omega arith in (
@@ -46,9 +25,6 @@ loop-again c = let b = c .before .before .before .before .before .before .loop i
       c .before .before .write-number .ensures ∙ rw (b .inv .1) (put-more _ _ _ _ (c .before .before .before .before .before .before .before .before .before .pre) h),
       rw (c .before .before .write-number .ensures, length-put) (b .inv .2),
     )
-
-same-length : tie.Need-same-length Inv-loop μ-loop
-same-length c = search needs
 
 returns : tie.Need-returns Inv-loop μ-loop
 returns c = let b = c .before .loop in
@@ -60,16 +36,5 @@ pub write-numbers-spec : {M : Type 1} → statement M
 write-numbers-spec =
     tie.close
     (tie.spec
-    Inv-loop
-    μ-loop
-    loop-holds
-    mul-write-number
-    add-write-number
-    mul-write-number-2
-    shared-slice-read-write-number
-    write-number-requires
-    add-i
-    loop-less
-    loop-again
-    same-length
-    returns)
+    Inv-loop μ-loop loop-holds (λ c. search needs) (λ c. search needs) (λ c. search needs) (λ c. search needs)
+    (λ c κs. search needs) (λ c. search needs) (λ c. search needs) loop-again (λ c. search needs) returns)

@@ -1,20 +1,14 @@
 use Rattle.model.specs.Run.{zeroed}
 use Rattle.machine.specs.Ends.{endingOf}
 use Rattle.model.specs.OldCore.{oldBegun}
-use Rattle.model.specs.OldState.{isSet}
+use Rattle.model.specs.StateBytes.{isSet}
 use borrow.Author.Needs.{needs}
 use Rattle.old_core.proofs.begin.Statement.{statement}
 use Rattle.old_core.proofs.begin.Tie as tie
-
-element-write-regs : tie.Need-element-write-regs
-element-write-regs c = search needs
-
-further-requires : tie.Need-further-requires
-further-requires c κs = search needs
 
 returns : tie.Need-returns
 unfolding oldBegun zeroed endingOf isSet
 returns c = λ a. rw (c .further .ensures)
 
 pub begin-spec : {M : Type 1} → statement M
-begin-spec = tie.close (tie.spec element-write-regs further-requires returns)
+begin-spec = tie.close (tie.spec (λ c. search needs) (λ c κs. search needs) returns)

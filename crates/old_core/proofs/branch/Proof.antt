@@ -5,37 +5,13 @@ use borrow.Author.Needs.{needs}
 use Rattle.old_core.proofs.branch.Statement.{statement}
 use Rattle.old_core.proofs.branch.Tie as tie
 
-holds-requires : tie.Need-holds-requires
-holds-requires c κs = search needs
-
-target-requires : tie.Need-target-requires
-target-requires c κs = search needs
-
-bit-requires : tie.Need-bit-requires
-bit-requires c κs = search needs
-
-advance-requires : tie.Need-advance-requires
-advance-requires c κs = search needs
-
 returns : tie.Need-returns
 returns c = λ rs a. c .advance .ensures rs a
     ∙ rw (c .before .before .before .target .ensures) (branch-always _ _ _ _ _ _ _ (sym (c .before .before .before .before .before .holds .ensures) ∙ c .before .before .before .before .if1 .taken) (eq-eqb _ _ (c .before .before .if2 .taken)) (c .before .bit .ensures .0))
 
-advance-requires-2 : tie.Need-advance-requires-2
-advance-requires-2 c κs = search needs
-
 returns-2 : tie.Need-returns-2
 returns-2 c = λ rs a. c .advance2 .ensures rs a
     ∙ rw (c .before .before .target .ensures) (branch-taken _ _ _ _ _ _ (sym (c .before .before .before .before .holds .ensures) ∙ c .before .before .before .if1 .taken) (ne-eqb _ _ (c .before .if2 .left)))
-
-further-requires : tie.Need-further-requires
-further-requires c κs = search needs
-
-bit-requires-2 : tie.Need-bit-requires-2
-bit-requires-2 c κs = search needs
-
-advance-requires-3 : tie.Need-advance-requires-3
-advance-requires-3 c κs = search needs
 
 returns-3 : tie.Need-returns-3
 returns-3 c = λ rs a. c .advance3 .ensures rs a
@@ -45,14 +21,5 @@ pub branch-spec : {M : Type 1} → statement M
 branch-spec =
     tie.close
     (tie.spec
-    holds-requires
-    target-requires
-    bit-requires
-    advance-requires
-    returns
-    advance-requires-2
-    returns-2
-    further-requires
-    bit-requires-2
-    advance-requires-3
-    returns-3)
+    (λ c κs. search needs) (λ c κs. search needs) (λ c κs. search needs) (λ c κs. search needs) returns
+    (λ c κs. search needs) returns-2 (λ c κs. search needs) (λ c κs. search needs) (λ c κs. search needs) returns-3)

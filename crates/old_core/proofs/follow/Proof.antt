@@ -1,19 +1,13 @@
 use Rattle.model.specs.OldCore.{follows}
-use Rattle.model.specs.OldState.{isSet}
+use Rattle.model.specs.StateBytes.{isSet}
 use mathlib.Core.Path.{_∙_}
 use borrow.Author.Needs.{needs}
 use Rattle.old_core.proofs.follow.Statement.{statement}
 use Rattle.old_core.proofs.follow.Tie as tie
-
-further-requires : tie.Need-further-requires
-further-requires c κs = search needs
-
-advance-requires : tie.Need-advance-requires
-advance-requires c κs = search needs
 
 returns : tie.Need-returns
 unfolding follows isSet
 returns c = λ rs a. c .advance .ensures rs a ∙ rw (c .before .further .ensures)
 
 pub follow-spec : {M : Type 1} → statement M
-follow-spec = tie.close (tie.spec further-requires advance-requires returns)
+follow-spec = tie.close (tie.spec (λ c κs. search needs) (λ c κs. search needs) returns)

@@ -1,26 +1,14 @@
 use Rattle.machine.specs.Ends.{endingOf, settle}
 use Rattle.model.specs.OldCore.{jumps}
-use Rattle.model.specs.OldState.{isSet}
+use Rattle.model.specs.StateBytes.{isSet}
 use borrow.Author.Tests.{eq-eqb, ne-eqb}
 use borrow.Author.Needs.{needs}
 use Rattle.old_core.proofs.jump.Statement.{statement}
 use Rattle.old_core.proofs.jump.Tie as tie
 
-address-requires : tie.Need-address-requires
-address-requires c κs = search needs
-
-put-requires : tie.Need-put-requires
-put-requires c κs = search needs
-
-advance-requires : tie.Need-advance-requires
-advance-requires c κs = search needs
-
 returns : tie.Need-returns
 unfolding jumps settle isSet
 returns c = λ a. rw (← c .before .before .before .before .address .ensures, eq-eqb _ _ (c .before .before .before .if1 .taken), ← c .before .put .ensures) (c .advance .ensures _ a)
-
-stop-requires : tie.Need-stop-requires
-stop-requires c κs = search needs
 
 returns-2 : tie.Need-returns-2
 unfolding jumps settle endingOf
@@ -29,4 +17,5 @@ returns-2 c = λ a. rw (← c .before .before .address .ensures, ne-eqb _ _ (c .
 pub jump-spec : {M : Type 1} → statement M
 jump-spec =
     tie.close
-    (tie.spec address-requires put-requires advance-requires returns stop-requires returns-2)
+    (tie.spec
+    (λ c κs. search needs) (λ c κs. search needs) (λ c κs. search needs) returns (λ c κs. search needs) returns-2)

@@ -1,30 +1,9 @@
-use Rattle.machine.proofs.Ring.{in-zeroed}
+use Rattle.windows.proofs.Ring.{in-zeroed}
 use Rattle.model.specs.Run.{zeroed}
 use Rattle.model.specs.StateBytes.{machineIn, newIn}
 use borrow.Author.Needs.{needs}
 use Rattle.pijorrel_new.proofs.decode.Statement.{statement}
 use Rattle.pijorrel_new.proofs.decode.Tie as tie
-
-file-in-requires : tie.Need-file-in-requires
-file-in-requires c κs = search needs
-
-read-number-requires : tie.Need-read-number-requires
-read-number-requires c κs = search needs
-
-read-number-requires-2 : tie.Need-read-number-requires-2
-read-number-requires-2 c κs = search needs
-
-read-number-requires-3 : tie.Need-read-number-requires-3
-read-number-requires-3 c κs = search needs
-
-read-number-requires-4 : tie.Need-read-number-requires-4
-read-number-requires-4 c κs = search needs
-
-read-number-requires-5 : tie.Need-read-number-requires-5
-read-number-requires-5 c κs = search needs
-
-end-from-requires : tie.Need-end-from-requires
-end-from-requires c κs = search needs
 
 returns : tie.Need-returns
 unfolding newIn machineIn zeroed
@@ -43,11 +22,5 @@ pub decode-spec : {M : Type 1} → statement M
 decode-spec =
     tie.close
     (tie.spec
-    file-in-requires
-    read-number-requires
-    read-number-requires-2
-    read-number-requires-3
-    read-number-requires-4
-    read-number-requires-5
-    end-from-requires
-    returns)
+    (λ c κs. search needs) (λ c κs. search needs) (λ c κs. search needs) (λ c κs. search needs) (λ c κs. search needs)
+    (λ c κs. search needs) (λ c κs. search needs) returns)

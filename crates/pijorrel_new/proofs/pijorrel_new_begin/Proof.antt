@@ -9,15 +9,6 @@ use borrow.Author.Needs.{needs}
 use Rattle.pijorrel_new.proofs.pijorrel_new_begin.Statement.{statement}
 use Rattle.pijorrel_new.proofs.pijorrel_new_begin.Tie as tie
 
-decode-requires : tie.Need-decode-requires
-decode-requires c κs = search needs
-
-begin-requires : tie.Need-begin-requires
-begin-requires c κs = search needs
-
-encode-requires : tie.Need-encode-requires
-encode-requires c κs = search needs
-
 returns : tie.Need-returns
 unfolding newBegins newIn
 returns c = let k = c .before .before .before .before .before .before .before .before .before .args in
@@ -26,4 +17,4 @@ returns c = let k = c .before .before .before .before .before .before .before .b
 
 pub pijorrel-new-begin-spec : {M : Type 1} → statement M
 pijorrel-new-begin-spec =
-    tie.close (tie.spec decode-requires begin-requires encode-requires returns)
+    tie.close (tie.spec (λ c κs. search needs) (λ c κs. search needs) (λ c κs. search needs) returns)

@@ -7,19 +7,10 @@ use borrow.Author.Needs.{needs}
 use Rattle.pijorrel_old.proofs.pijorrel_old_begin.Statement.{statement}
 use Rattle.pijorrel_old.proofs.pijorrel_old_begin.Tie as tie
 
-decode-requires : tie.Need-decode-requires
-decode-requires c κs = search needs
-
-begin-requires : tie.Need-begin-requires
-begin-requires c κs = search needs
-
-encode-requires : tie.Need-encode-requires
-encode-requires c κs = search needs
-
 returns : tie.Need-returns
 unfolding oldBegins oldIn
 returns c = c .encode .ensures .2 [] ∙ ap oldBytes (c .before .before .before .begin .ensures [] ∙ ap (oldBegun _) (same-machine (c .before .before .before .before .before .decode .ensures [])))
 
 pub pijorrel-old-begin-spec : {M : Type 1} → statement M
 pijorrel-old-begin-spec =
-    tie.close (tie.spec decode-requires begin-requires encode-requires returns)
+    tie.close (tie.spec (λ c κs. search needs) (λ c κs. search needs) (λ c κs. search needs) returns)

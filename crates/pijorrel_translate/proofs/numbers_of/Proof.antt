@@ -3,66 +3,6 @@ use borrow.Author.Needs.{needs}
 use Rattle.pijorrel_translate.proofs.numbers_of.Statement.{statement}
 use Rattle.pijorrel_translate.proofs.numbers_of.Tie as tie
 
-enum-known-a : tie.Need-enum-known-a
-enum-known-a c = search needs
-
-cast-t11 : tie.Need-cast-t11
-cast-t11 c = search needs
-
-cast-t12 : tie.Need-cast-t12
-cast-t12 c = search needs
-
-enum-known-a-2 : tie.Need-enum-known-a-2
-enum-known-a-2 c = search needs
-
-refusal-requires : tie.Need-refusal-requires
-refusal-requires c κs = search needs
-
-enum-known-a-3 : tie.Need-enum-known-a-3
-enum-known-a-3 c = search needs
-
-cast-refusal : tie.Need-cast-refusal
-cast-refusal c = search needs
-
-refusal-requires-2 : tie.Need-refusal-requires-2
-refusal-requires-2 c κs = search needs
-
-enum-known-a-4 : tie.Need-enum-known-a-4
-enum-known-a-4 c = search needs
-
-cast-refusal-2 : tie.Need-cast-refusal-2
-cast-refusal-2 c = search needs
-
-refusal-requires-3 : tie.Need-refusal-requires-3
-refusal-requires-3 c κs = search needs
-
-enum-known-a-5 : tie.Need-enum-known-a-5
-enum-known-a-5 c = search needs
-
-cast-refusal-3 : tie.Need-cast-refusal-3
-cast-refusal-3 c = search needs
-
-refusal-requires-4 : tie.Need-refusal-requires-4
-refusal-requires-4 c κs = search needs
-
-enum-known-a-6 : tie.Need-enum-known-a-6
-enum-known-a-6 c = search needs
-
-cast-refusal-4 : tie.Need-cast-refusal-4
-cast-refusal-4 c = search needs
-
-refusal-requires-5 : tie.Need-refusal-requires-5
-refusal-requires-5 c κs = search needs
-
-enum-known-a-7 : tie.Need-enum-known-a-7
-enum-known-a-7 c = search needs
-
-cast-refusal-5 : tie.Need-cast-refusal-5
-cast-refusal-5 c = search needs
-
-refusal-requires-6 : tie.Need-refusal-requires-6
-refusal-requires-6 c κs = search needs
-
 returns : tie.Need-returns
 unfolding answerNumbers
 returns c = rw (c .before .a .given .1)
@@ -95,30 +35,8 @@ pub numbers-of-spec : {M : Type 1} → statement M
 numbers-of-spec =
     tie.close
     (tie.spec
-    enum-known-a
-    cast-t11
-    cast-t12
-    enum-known-a-2
-    refusal-requires
-    enum-known-a-3
-    cast-refusal
-    refusal-requires-2
-    enum-known-a-4
-    cast-refusal-2
-    refusal-requires-3
-    enum-known-a-5
-    cast-refusal-3
-    refusal-requires-4
-    enum-known-a-6
-    cast-refusal-4
-    refusal-requires-5
-    enum-known-a-7
-    cast-refusal-5
-    refusal-requires-6
-    returns
-    returns-2
-    returns-3
-    returns-4
-    returns-5
-    returns-6
-    returns-7)
+    (λ c. search needs) (λ c. search needs) (λ c. search needs) (λ c. search needs) (λ c κs. search needs)
+    (λ c. search needs) (λ c. search needs) (λ c κs. search needs) (λ c. search needs) (λ c. search needs)
+    (λ c κs. search needs) (λ c. search needs) (λ c. search needs) (λ c κs. search needs) (λ c. search needs)
+    (λ c. search needs) (λ c κs. search needs) (λ c. search needs) (λ c. search needs) (λ c κs. search needs) returns
+    returns-2 returns-3 returns-4 returns-5 returns-6 returns-7)

@@ -3,12 +3,6 @@ use borrow.Author.Needs.{needs}
 use Rattle.pijorrel_words.proofs.answer.Statement.{statement}
 use Rattle.pijorrel_words.proofs.answer.Tie as tie
 
-enum-known-w : tie.Need-enum-known-w
-enum-known-w c = search needs
-
-enum-known-w-2 : tie.Need-enum-known-w-2
-enum-known-w-2 c = search needs
-
 returns : tie.Need-returns
 unfolding answerOf
 returns c = rw (c .before .w .given .1)
@@ -18,4 +12,4 @@ unfolding answerOf
 returns-2 c = rw (c .before .w2 .given .1)
 
 pub answer-spec : {M : Type 1} → statement M
-answer-spec = tie.close (tie.spec enum-known-w enum-known-w-2 returns returns-2)
+answer-spec = tie.close (tie.spec (λ c. search needs) (λ c. search needs) returns returns-2)

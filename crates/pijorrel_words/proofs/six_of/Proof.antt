@@ -3,117 +3,6 @@ use borrow.Author.Needs.{needs}
 use Rattle.pijorrel_words.proofs.six_of.Statement.{statement}
 use Rattle.pijorrel_words.proofs.six_of.Tie as tie
 
-enum-told : tie.Need-enum-told
-enum-told c = search needs
-
-plain-six-requires : tie.Need-plain-six-requires
-plain-six-requires c κs = search needs
-
-enum-known-i : tie.Need-enum-known-i
-enum-known-i c = search needs
-
-plain-six-requires-2 : tie.Need-plain-six-requires-2
-plain-six-requires-2 c κs = search needs
-
-enum-known-i-2 : tie.Need-enum-known-i-2
-enum-known-i-2 c = search needs
-
-plain-six-requires-3 : tie.Need-plain-six-requires-3
-plain-six-requires-3 c κs = search needs
-
-enum-known-i-3 : tie.Need-enum-known-i-3
-enum-known-i-3 c = search needs
-
-one-bit-requires : tie.Need-one-bit-requires
-one-bit-requires c κs = search needs
-
-plain-six-requires-4 : tie.Need-plain-six-requires-4
-plain-six-requires-4 c κs = search needs
-
-enum-known-i-4 : tie.Need-enum-known-i-4
-enum-known-i-4 c = search needs
-
-arithmetic-op3-requires : tie.Need-arithmetic-op3-requires
-arithmetic-op3-requires c κs = search needs
-
-add-six-with : tie.Need-add-six-with
-add-six-with c = search needs
-
-six-with-requires : tie.Need-six-with-requires
-six-with-requires c κs = search needs
-
-enum-known-i-5 : tie.Need-enum-known-i-5
-enum-known-i-5 c = search needs
-
-six-with-requires-2 : tie.Need-six-with-requires-2
-six-with-requires-2 c κs = search needs
-
-enum-known-i-6 : tie.Need-enum-known-i-6
-enum-known-i-6 c = search needs
-
-six-with-requires-3 : tie.Need-six-with-requires-3
-six-with-requires-3 c κs = search needs
-
-enum-known-i-7 : tie.Need-enum-known-i-7
-enum-known-i-7 c = search needs
-
-load-op3-requires : tie.Need-load-op3-requires
-load-op3-requires c κs = search needs
-
-add-six-with-2 : tie.Need-add-six-with-2
-add-six-with-2 c = search needs
-
-six-with-requires-4 : tie.Need-six-with-requires-4
-six-with-requires-4 c κs = search needs
-
-enum-known-i-8 : tie.Need-enum-known-i-8
-enum-known-i-8 c = search needs
-
-store-op3-requires : tie.Need-store-op3-requires
-store-op3-requires c κs = search needs
-
-add-six-with-3 : tie.Need-add-six-with-3
-add-six-with-3 c = search needs
-
-six-with-requires-5 : tie.Need-six-with-requires-5
-six-with-requires-5 c κs = search needs
-
-enum-known-i-9 : tie.Need-enum-known-i-9
-enum-known-i-9 c = search needs
-
-shift-op3-requires : tie.Need-shift-op3-requires
-shift-op3-requires c κs = search needs
-
-add-six-with-4 : tie.Need-add-six-with-4
-add-six-with-4 c = search needs
-
-six-with-requires-6 : tie.Need-six-with-requires-6
-six-with-requires-6 c κs = search needs
-
-enum-known-i-10 : tie.Need-enum-known-i-10
-enum-known-i-10 c = search needs
-
-plain-six-requires-5 : tie.Need-plain-six-requires-5
-plain-six-requires-5 c κs = search needs
-
-enum-known-i-11 : tie.Need-enum-known-i-11
-enum-known-i-11 c = search needs
-
-six-with-requires-7 : tie.Need-six-with-requires-7
-six-with-requires-7 c κs = search needs
-
-enum-known-i-12 : tie.Need-enum-known-i-12
-enum-known-i-12 c = search needs
-
-window-op3-requires : tie.Need-window-op3-requires
-window-op3-requires c κs = search needs
-
-add-six-with-5 : tie.Need-add-six-with-5
-add-six-with-5 c = search needs
-
-six-with-requires-8 : tie.Need-six-with-requires-8
-six-with-requires-8 c κs = search needs
-
 returns : tie.Need-returns
 unfolding sixOf
 returns c = rw (c .before .enum-told .given .1) (c .plain-six .ensures)
@@ -170,53 +59,12 @@ pub six-of-spec : {M : Type 1} → statement M
 six-of-spec =
     tie.close
     (tie.spec
-    enum-told
-    plain-six-requires
-    enum-known-i
-    plain-six-requires-2
-    enum-known-i-2
-    plain-six-requires-3
-    enum-known-i-3
-    one-bit-requires
-    plain-six-requires-4
-    enum-known-i-4
-    arithmetic-op3-requires
-    add-six-with
-    six-with-requires
-    enum-known-i-5
-    six-with-requires-2
-    enum-known-i-6
-    six-with-requires-3
-    enum-known-i-7
-    load-op3-requires
-    add-six-with-2
-    six-with-requires-4
-    enum-known-i-8
-    store-op3-requires
-    add-six-with-3
-    six-with-requires-5
-    enum-known-i-9
-    shift-op3-requires
-    add-six-with-4
-    six-with-requires-6
-    enum-known-i-10
-    plain-six-requires-5
-    enum-known-i-11
-    six-with-requires-7
-    enum-known-i-12
-    window-op3-requires
-    add-six-with-5
-    six-with-requires-8
-    returns
-    returns-2
-    returns-3
-    returns-4
-    returns-5
-    returns-6
-    returns-7
-    returns-8
-    returns-9
-    returns-10
-    returns-11
-    returns-12
-    returns-13)
+    (λ c. search needs) (λ c κs. search needs) (λ c. search needs) (λ c κs. search needs) (λ c. search needs)
+    (λ c κs. search needs) (λ c. search needs) (λ c κs. search needs) (λ c κs. search needs) (λ c. search needs)
+    (λ c κs. search needs) (λ c. search needs) (λ c κs. search needs) (λ c. search needs) (λ c κs. search needs)
+    (λ c. search needs) (λ c κs. search needs) (λ c. search needs) (λ c κs. search needs) (λ c. search needs)
+    (λ c κs. search needs) (λ c. search needs) (λ c κs. search needs) (λ c. search needs) (λ c κs. search needs)
+    (λ c. search needs) (λ c κs. search needs) (λ c. search needs) (λ c κs. search needs) (λ c. search needs)
+    (λ c κs. search needs) (λ c. search needs) (λ c κs. search needs) (λ c. search needs) (λ c κs. search needs)
+    (λ c. search needs) (λ c κs. search needs) returns returns-2 returns-3 returns-4 returns-5 returns-6 returns-7
+    returns-8 returns-9 returns-10 returns-11 returns-12 returns-13)

@@ -4,20 +4,8 @@ use borrow.Author.Needs.{needs}
 use Rattle.pijorrel_words.proofs.write2.Statement.{statement}
 use Rattle.pijorrel_words.proofs.write2.Tie as tie
 
-is-form2-requires : tie.Need-is-form2-requires
-is-form2-requires c κs = search needs
-
-trap-word-requires : tie.Need-trap-word-requires
-trap-word-requires c κs = search needs
-
 returns : tie.Need-returns
 returns c = rw (form-2 _ _ _ _, ← c .before .before .before .is-form2 .ensures _ _, c .before .before .if1 .taken, eq-eqb _ _ (c .before .if2 .taken)) (c .trap-word .ensures)
-
-subtract-requires : tie.Need-subtract-requires
-subtract-requires c κs = search needs
-
-shift-word-requires : tie.Need-shift-word-requires
-shift-word-requires c κs = search needs
 
 returns-2 : tie.Need-returns-2
 returns-2 c =
@@ -29,9 +17,6 @@ returns-2 c =
       ← c .before .before .subtract .ensures,
       lt-ltb _ _ (c .before .if3 .taken),
     ) (c .shift-word .ensures)
-
-rdy-word-requires : tie.Need-rdy-word-requires
-rdy-word-requires c κs = search needs
 
 returns-3 : tie.Need-returns-3
 returns-3 c =
@@ -46,9 +31,6 @@ returns-3 c =
       eq-eqb _ _ (c .before .if4 .taken),
     ) (c .rdy-word .ensures)
 
-wry-word-requires : tie.Need-wry-word-requires
-wry-word-requires c κs = search needs
-
 returns-4 : tie.Need-returns-4
 returns-4 c =
     let d = c .before .before .before in
@@ -62,9 +44,6 @@ returns-4 c =
       ne-eqb _ _ (c .before .before .if4 .left),
       eq-eqb _ _ (c .before .if5 .taken),
     ) (c .wry-word .ensures)
-
-long-word-requires : tie.Need-long-word-requires
-long-word-requires c κs = search needs
 
 returns-5 : tie.Need-returns-5
 returns-5 c =
@@ -87,16 +66,5 @@ pub write2-spec : {M : Type 1} → statement M
 write2-spec =
     tie.close
     (tie.spec
-    is-form2-requires
-    trap-word-requires
-    returns
-    subtract-requires
-    shift-word-requires
-    returns-2
-    rdy-word-requires
-    returns-3
-    wry-word-requires
-    returns-4
-    long-word-requires
-    returns-5
-    returns-6)
+    (λ c κs. search needs) (λ c κs. search needs) returns (λ c κs. search needs) (λ c κs. search needs) returns-2
+    (λ c κs. search needs) returns-3 (λ c κs. search needs) returns-4 (λ c κs. search needs) returns-5 returns-6)

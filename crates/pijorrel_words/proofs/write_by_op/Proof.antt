@@ -6,18 +6,9 @@ use borrow.Author.Needs.{needs}
 use Rattle.pijorrel_words.proofs.write_by_op.Statement.{statement}
 use Rattle.pijorrel_words.proofs.write_by_op.Tie as tie
 
-write2-requires : tie.Need-write2-requires
-write2-requires c κs = search needs
-
 returns : tie.Need-returns
 unfolding byOp
 returns c = rw (eq-eqb _ _ (c .before .if1 .taken)) (c .write2 .ensures)
-
-is-form3-requires : tie.Need-is-form3-requires
-is-form3-requires c κs = search needs
-
-long-word-requires : tie.Need-long-word-requires
-long-word-requires c κs = search needs
 
 returns-2 : tie.Need-returns-2
 unfolding byOp
@@ -36,4 +27,5 @@ returns-4 c = rw (ne-eqb _ _ (c .before .if1 .left), ne-eqb _ _ (c .if2 .left))
 pub write-by-op-spec : {M : Type 1} → statement M
 write-by-op-spec =
     tie.close
-    (tie.spec write2-requires returns is-form3-requires long-word-requires returns-2 returns-3 returns-4)
+    (tie.spec
+    (λ c κs. search needs) returns (λ c κs. search needs) (λ c κs. search needs) returns-2 returns-3 returns-4)

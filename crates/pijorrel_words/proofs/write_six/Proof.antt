@@ -6,32 +6,17 @@ use borrow.Author.Needs.{needs}
 use Rattle.pijorrel_words.proofs.write_six.Statement.{statement}
 use Rattle.pijorrel_words.proofs.write_six.Tie as tie
 
-branch-word-requires : tie.Need-branch-word-requires
-branch-word-requires c κs = search needs
-
 returns : tie.Need-returns
 unfolding instructionFrom writtenOf
 returns c = rw (c .before .match .keys1) (c .branch-word .ensures)
-
-sethi-word-requires : tie.Need-sethi-word-requires
-sethi-word-requires c κs = search needs
 
 returns-2 : tie.Need-returns-2
 unfolding instructionFrom writtenOf
 returns-2 c = rw (c .before .match .keys2) (c .sethi-word .ensures)
 
-call-word-requires : tie.Need-call-word-requires
-call-word-requires c κs = search needs
-
 returns-3 : tie.Need-returns-3
 unfolding instructionFrom writtenOf
 returns-3 c = rw (c .before .match .keys3) (c .call-word .ensures)
-
-operand-from-requires : tie.Need-operand-from-requires
-operand-from-requires c κs = search needs
-
-write-by-op-requires : tie.Need-write-by-op-requires
-write-by-op-requires c κs = search needs
 
 returns-4 : tie.Need-returns-4
 returns-4 c =
@@ -41,12 +26,5 @@ pub write-six-spec : {M : Type 1} → statement M
 write-six-spec =
     tie.close
     (tie.spec
-    branch-word-requires
-    sethi-word-requires
-    call-word-requires
-    operand-from-requires
-    write-by-op-requires
-    returns
-    returns-2
-    returns-3
-    returns-4)
+    (λ c κs. search needs) (λ c κs. search needs) (λ c κs. search needs) (λ c κs. search needs) (λ c κs. search needs)
+    returns returns-2 returns-3 returns-4)

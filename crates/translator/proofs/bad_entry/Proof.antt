@@ -11,18 +11,9 @@ returns : tie.Need-returns
 unfolding badEntry
 returns c = rw (ne-eqb _ _ (c .if1 .taken))
 
-subtract-requires : tie.Need-subtract-requires
-subtract-requires c κs = search needs
-
-cast-at : tie.Need-cast-at
-cast-at c = search needs
-
-add-result : tie.Need-add-result
-add-result c = search needs
-
 returns-2 : tie.Need-returns-2
 unfolding badEntry inImage
 returns-2 c = rw (eq-eqb _ _ (c .before .if1 .left), ← c .subtract .ensures) (outside (c .subtract .result + 4) (c .before .before .args .size))
 
 pub bad-entry-spec : {M : Type 1} → statement M
-bad-entry-spec = tie.close (tie.spec returns subtract-requires cast-at add-result returns-2)
+bad-entry-spec = tie.close (tie.spec returns (λ c κs. search needs) (λ c. search needs) (λ c. search needs) returns-2)

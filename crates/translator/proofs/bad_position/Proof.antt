@@ -20,30 +20,9 @@ abbrev μ-loop : tie.MeasureT-loop
 loop-holds : tie.Need-loop-holds Inv-loop μ-loop
 loop-holds c = (omega arith, refl)
 
-mul-read-number : tie.Need-mul-read-number Inv-loop μ-loop
-mul-read-number c = search needs
-
-read-number-requires : tie.Need-read-number-requires Inv-loop μ-loop
-read-number-requires c κs = search needs
-
-bad-entry-requires : tie.Need-bad-entry-requires Inv-loop μ-loop
-bad-entry-requires c κs = search needs
-
-add-result : tie.Need-add-result Inv-loop μ-loop
-add-result c = search needs
-
-cast-result : tie.Need-cast-result Inv-loop μ-loop
-cast-result c = search needs
-
 returns : tie.Need-returns Inv-loop μ-loop
 returns c = let b = c .before .before .before .before .loop in
     add-one _ ∙ bad-here _ _ _ _ _ _ (c .before .before .before .loop-test .taken) (c .before .before .read-number .ensures) (c .before .bad-entry .ensures) (c .if1 .taken) ∙ b .inv .1
-
-add-j : tie.Need-add-j Inv-loop μ-loop
-add-j c = search needs
-
-loop-less : tie.Need-loop-less Inv-loop μ-loop
-loop-less c = search needs
 
 loop-again : tie.Need-loop-again Inv-loop μ-loop
 loop-again c = let b = c .before .before .before .before .loop in
@@ -56,16 +35,5 @@ pub bad-position-spec : {M : Type 1} → statement M
 bad-position-spec =
     tie.close
     (tie.spec
-    Inv-loop
-    μ-loop
-    loop-holds
-    mul-read-number
-    read-number-requires
-    bad-entry-requires
-    add-result
-    cast-result
-    returns
-    add-j
-    loop-less
-    loop-again
-    returns-2)
+    Inv-loop μ-loop loop-holds (λ c. search needs) (λ c κs. search needs) (λ c κs. search needs) (λ c. search needs)
+    (λ c. search needs) returns (λ c. search needs) (λ c. search needs) loop-again returns-2)

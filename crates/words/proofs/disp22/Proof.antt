@@ -7,18 +7,12 @@ use borrow.Author.Needs.{needs}
 use Rattle.words.proofs.disp22.Statement.{statement}
 use Rattle.words.proofs.disp22.Tie as tie
 
-imm22-requires : tie.Need-imm22-requires
-imm22-requires c κs = search needs
-
 add-subtract : tie.Need-add-subtract
 add-subtract c = let b : c .imm22 .result < 2 ^ 22 = rw (c .imm22 .ensures, ← low-bits (c .before .args .word) 22) (mask-lt (c .before .args .word) 22) in
     record { fits = omega arith }
-
-subtract-requires : tie.Need-subtract-requires
-subtract-requires c κs = search needs
 
 returns : tie.Need-returns
 returns c = c .subtract .ensures ∙ extended 2097152 22 _ _ (c .before .imm22 .ensures) refl refl (omega arith)
 
 pub disp22-spec : {M : Type 1} → statement M
-disp22-spec = tie.close (tie.spec imm22-requires add-subtract subtract-requires returns)
+disp22-spec = tie.close (tie.spec (λ c κs. search needs) add-subtract (λ c κs. search needs) returns)

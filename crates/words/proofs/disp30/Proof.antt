@@ -9,11 +9,8 @@ use Rattle.words.proofs.disp30.Tie as tie
 add-subtract : tie.Need-add-subtract
 add-subtract c = record { fits = omega (arith, mask-lt (c .args .word) 30) }
 
-subtract-requires : tie.Need-subtract-requires
-subtract-requires c κs = search needs
-
 returns : tie.Need-returns
 returns c = c .subtract .ensures ∙ extended 536870912 30 _ _ (low-bits _ 30) refl refl (omega arith)
 
 pub disp30-spec : {M : Type 1} → statement M
-disp30-spec = tie.close (tie.spec add-subtract subtract-requires returns)
+disp30-spec = tie.close (tie.spec add-subtract (λ c κs. search needs) returns)

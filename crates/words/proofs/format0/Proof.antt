@@ -4,24 +4,6 @@ use borrow.Author.Needs.{needs}
 use Rattle.words.proofs.format0.Statement.{statement}
 use Rattle.words.proofs.format0.Tie as tie
 
-op2-requires : tie.Need-op2-requires
-op2-requires c κs = search needs
-
-cond-requires : tie.Need-cond-requires
-cond-requires c κs = search needs
-
-annul-bit-requires : tie.Need-annul-bit-requires
-annul-bit-requires c κs = search needs
-
-disp22-requires : tie.Need-disp22-requires
-disp22-requires c κs = search needs
-
-rd-requires : tie.Need-rd-requires
-rd-requires c κs = search needs
-
-imm22-requires : tie.Need-imm22-requires
-imm22-requires c κs = search needs
-
 returns : tie.Need-returns
 unfolding format0Of
 returns c = rw (← c .before .before .before .before .op2 .ensures, c .before .before .before .match .keys1, c .before .before .cond .ensures, c .before .annul-bit .ensures, c .disp22 .ensures)
@@ -37,12 +19,5 @@ pub format0-spec : {M : Type 1} → statement M
 format0-spec =
     tie.close
     (tie.spec
-    op2-requires
-    cond-requires
-    annul-bit-requires
-    disp22-requires
-    rd-requires
-    imm22-requires
-    returns
-    returns-2
-    returns-3)
+    (λ c κs. search needs) (λ c κs. search needs) (λ c κs. search needs) (λ c κs. search needs) (λ c κs. search needs)
+    (λ c κs. search needs) returns returns-2 returns-3)

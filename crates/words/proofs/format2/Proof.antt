@@ -5,81 +5,6 @@ use borrow.Author.Needs.{needs}
 use Rattle.words.proofs.format2.Statement.{statement}
 use Rattle.words.proofs.format2.Tie as tie
 
-arithmetic-requires : tie.Need-arithmetic-requires
-arithmetic-requires c κs = search needs
-
-arithmetic-requires-2 : tie.Need-arithmetic-requires-2
-arithmetic-requires-2 c κs = search needs
-
-arithmetic-requires-3 : tie.Need-arithmetic-requires-3
-arithmetic-requires-3 c κs = search needs
-
-arithmetic-requires-4 : tie.Need-arithmetic-requires-4
-arithmetic-requires-4 c κs = search needs
-
-arithmetic-requires-5 : tie.Need-arithmetic-requires-5
-arithmetic-requires-5 c κs = search needs
-
-arithmetic-requires-6 : tie.Need-arithmetic-requires-6
-arithmetic-requires-6 c κs = search needs
-
-arithmetic-requires-7 : tie.Need-arithmetic-requires-7
-arithmetic-requires-7 c κs = search needs
-
-arithmetic-requires-8 : tie.Need-arithmetic-requires-8
-arithmetic-requires-8 c κs = search needs
-
-arithmetic-requires-9 : tie.Need-arithmetic-requires-9
-arithmetic-requires-9 c κs = search needs
-
-arithmetic-requires-10 : tie.Need-arithmetic-requires-10
-arithmetic-requires-10 c κs = search needs
-
-arithmetic-requires-11 : tie.Need-arithmetic-requires-11
-arithmetic-requires-11 c κs = search needs
-
-arithmetic-requires-12 : tie.Need-arithmetic-requires-12
-arithmetic-requires-12 c κs = search needs
-
-arithmetic-requires-13 : tie.Need-arithmetic-requires-13
-arithmetic-requires-13 c κs = search needs
-
-arithmetic-requires-14 : tie.Need-arithmetic-requires-14
-arithmetic-requires-14 c κs = search needs
-
-arithmetic-requires-15 : tie.Need-arithmetic-requires-15
-arithmetic-requires-15 c κs = search needs
-
-arithmetic-requires-16 : tie.Need-arithmetic-requires-16
-arithmetic-requires-16 c κs = search needs
-
-arithmetic-requires-17 : tie.Need-arithmetic-requires-17
-arithmetic-requires-17 c κs = search needs
-
-arithmetic-requires-18 : tie.Need-arithmetic-requires-18
-arithmetic-requires-18 c κs = search needs
-
-arithmetic-requires-19 : tie.Need-arithmetic-requires-19
-arithmetic-requires-19 c κs = search needs
-
-arithmetic-requires-20 : tie.Need-arithmetic-requires-20
-arithmetic-requires-20 c κs = search needs
-
-arithmetic-requires-21 : tie.Need-arithmetic-requires-21
-arithmetic-requires-21 c κs = search needs
-
-arithmetic-requires-22 : tie.Need-arithmetic-requires-22
-arithmetic-requires-22 c κs = search needs
-
-arithmetic-requires-23 : tie.Need-arithmetic-requires-23
-arithmetic-requires-23 c κs = search needs
-
-arithmetic-requires-24 : tie.Need-arithmetic-requires-24
-arithmetic-requires-24 c κs = search needs
-
-other2-requires : tie.Need-other2-requires
-other2-requires c κs = search needs
-
 returns : tie.Need-returns
 unfolding format2Of
 returns c = rw (c .before .match .keys1) (c .arithmetic .ensures)
@@ -183,53 +108,11 @@ pub format2-spec : {M : Type 1} → statement M
 format2-spec =
     tie.close
     (tie.spec
-    arithmetic-requires
-    arithmetic-requires-2
-    arithmetic-requires-3
-    arithmetic-requires-4
-    arithmetic-requires-5
-    arithmetic-requires-6
-    arithmetic-requires-7
-    arithmetic-requires-8
-    arithmetic-requires-9
-    arithmetic-requires-10
-    arithmetic-requires-11
-    arithmetic-requires-12
-    arithmetic-requires-13
-    arithmetic-requires-14
-    arithmetic-requires-15
-    arithmetic-requires-16
-    arithmetic-requires-17
-    arithmetic-requires-18
-    arithmetic-requires-19
-    arithmetic-requires-20
-    arithmetic-requires-21
-    arithmetic-requires-22
-    arithmetic-requires-23
-    arithmetic-requires-24
-    other2-requires
-    returns
-    returns-2
-    returns-3
-    returns-4
-    returns-5
-    returns-6
-    returns-7
-    returns-8
-    returns-9
-    returns-10
-    returns-11
-    returns-12
-    returns-13
-    returns-14
-    returns-15
-    returns-16
-    returns-17
-    returns-18
-    returns-19
-    returns-20
-    returns-21
-    returns-22
-    returns-23
-    returns-24
-    returns-25)
+    (λ c κs. search needs) (λ c κs. search needs) (λ c κs. search needs) (λ c κs. search needs) (λ c κs. search needs)
+    (λ c κs. search needs) (λ c κs. search needs) (λ c κs. search needs) (λ c κs. search needs) (λ c κs. search needs)
+    (λ c κs. search needs) (λ c κs. search needs) (λ c κs. search needs) (λ c κs. search needs) (λ c κs. search needs)
+    (λ c κs. search needs) (λ c κs. search needs) (λ c κs. search needs) (λ c κs. search needs) (λ c κs. search needs)
+    (λ c κs. search needs) (λ c κs. search needs) (λ c κs. search needs) (λ c κs. search needs) (λ c κs. search needs)
+    returns returns-2 returns-3 returns-4 returns-5 returns-6 returns-7 returns-8 returns-9 returns-10 returns-11
+    returns-12 returns-13 returns-14 returns-15 returns-16 returns-17 returns-18 returns-19 returns-20 returns-21
+    returns-22 returns-23 returns-24 returns-25)

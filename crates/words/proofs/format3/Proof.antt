@@ -5,30 +5,6 @@ use borrow.Author.Needs.{needs}
 use Rattle.words.proofs.format3.Statement.{statement}
 use Rattle.words.proofs.format3.Tie as tie
 
-load-requires : tie.Need-load-requires
-load-requires c κs = search needs
-
-load-requires-2 : tie.Need-load-requires-2
-load-requires-2 c κs = search needs
-
-load-requires-3 : tie.Need-load-requires-3
-load-requires-3 c κs = search needs
-
-store-requires : tie.Need-store-requires
-store-requires c κs = search needs
-
-store-requires-2 : tie.Need-store-requires-2
-store-requires-2 c κs = search needs
-
-store-requires-3 : tie.Need-store-requires-3
-store-requires-3 c κs = search needs
-
-load-requires-4 : tie.Need-load-requires-4
-load-requires-4 c κs = search needs
-
-load-requires-5 : tie.Need-load-requires-5
-load-requires-5 c κs = search needs
-
 returns : tie.Need-returns
 unfolding format3Of
 returns c = rw (c .before .match .keys1) (c .load .ensures)
@@ -69,20 +45,6 @@ pub format3-spec : {M : Type 1} → statement M
 format3-spec =
     tie.close
     (tie.spec
-    load-requires
-    load-requires-2
-    load-requires-3
-    store-requires
-    store-requires-2
-    store-requires-3
-    load-requires-4
-    load-requires-5
-    returns
-    returns-2
-    returns-3
-    returns-4
-    returns-5
-    returns-6
-    returns-7
-    returns-8
-    returns-9)
+    (λ c κs. search needs) (λ c κs. search needs) (λ c κs. search needs) (λ c κs. search needs) (λ c κs. search needs)
+    (λ c κs. search needs) (λ c κs. search needs) (λ c κs. search needs) returns returns-2 returns-3 returns-4
+    returns-5 returns-6 returns-7 returns-8 returns-9)

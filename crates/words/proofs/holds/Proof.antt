@@ -7,15 +7,6 @@ use borrow.Author.Needs.{needs}
 use Rattle.words.proofs.holds.Statement.{statement}
 use Rattle.words.proofs.holds.Tie as tie
 
-mul-bit-at : tie.Need-mul-bit-at
-mul-bit-at c = search needs
-
-array-read-bit-at : tie.Need-array-read-bit-at
-array-read-bit-at c = search needs
-
-bit-at-requires : tie.Need-bit-at-requires
-bit-at-requires c κs = search needs
-
 returns : tie.Need-returns
 unfolding holdsOf rows
 returns c = c .bit-at .ensures
@@ -25,4 +16,4 @@ unfolding holdsOf rows
 returns-2 c = sym (ap (λ (k : ℕ). bitAt k (c .before .args .nzvc % 16)) (List·getD-eq-default rows 0 (c .if1 .left)) ∙ zero-row _)
 
 pub holds-spec : {M : Type 1} → statement M
-holds-spec = tie.close (tie.spec mul-bit-at array-read-bit-at bit-at-requires returns returns-2)
+holds-spec = tie.close (tie.spec (λ c. search needs) (λ c. search needs) (λ c κs. search needs) returns returns-2)

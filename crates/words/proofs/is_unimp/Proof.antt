@@ -5,12 +5,6 @@ use borrow.Author.Needs.{needs}
 use Rattle.words.proofs.is_unimp.Statement.{statement}
 use Rattle.words.proofs.is_unimp.Tie as tie
 
-op-requires : tie.Need-op-requires
-op-requires c κs = search needs
-
-op2-requires : tie.Need-op2-requires
-op2-requires c κs = search needs
-
 returns : tie.Need-returns
 unfolding isUnimp
 returns c = rw (c .op2 .ensures, eq-eqb _ _ (sym (c .before .before .op .ensures) ∙ c .before .if1 .taken))
@@ -20,4 +14,4 @@ unfolding isUnimp
 returns-2 c = rw (ne-eqb _ _ (λ e. c .if1 .left (c .before .op .ensures ∙ e)))
 
 pub is-unimp-spec : {M : Type 1} → statement M
-is-unimp-spec = tie.close (tie.spec op-requires op2-requires returns returns-2)
+is-unimp-spec = tie.close (tie.spec (λ c κs. search needs) (λ c κs. search needs) returns returns-2)

@@ -3,21 +3,9 @@ use borrow.Author.Needs.{needs}
 use Rattle.words.proofs.jump.Statement.{statement}
 use Rattle.words.proofs.jump.Tie as tie
 
-register-strays-requires : tie.Need-register-strays-requires
-register-strays-requires c κs = search needs
-
 returns : tie.Need-returns
 unfolding strictly unusedSet
 returns c = rw (← c .before .register-strays .ensures, c .if1 .taken)
-
-rd-requires : tie.Need-rd-requires
-rd-requires c κs = search needs
-
-rs1-requires : tie.Need-rs1-requires
-rs1-requires c κs = search needs
-
-second-operand-requires : tie.Need-second-operand-requires
-second-operand-requires c κs = search needs
 
 returns-2 : tie.Need-returns-2
 unfolding strictly unusedSet
@@ -27,9 +15,4 @@ pub jump-spec : {M : Type 1} → statement M
 jump-spec =
     tie.close
     (tie.spec
-    register-strays-requires
-    returns
-    rd-requires
-    rs1-requires
-    second-operand-requires
-    returns-2)
+    (λ c κs. search needs) returns (λ c κs. search needs) (λ c κs. search needs) (λ c κs. search needs) returns-2)

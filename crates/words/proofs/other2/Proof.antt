@@ -5,33 +5,6 @@ use borrow.Author.Needs.{needs}
 use Rattle.words.proofs.other2.Statement.{statement}
 use Rattle.words.proofs.other2.Tie as tie
 
-shift-requires : tie.Need-shift-requires
-shift-requires c κs = search needs
-
-shift-requires-2 : tie.Need-shift-requires-2
-shift-requires-2 c κs = search needs
-
-shift-requires-3 : tie.Need-shift-requires-3
-shift-requires-3 c κs = search needs
-
-rdy-requires : tie.Need-rdy-requires
-rdy-requires c κs = search needs
-
-wry-requires : tie.Need-wry-requires
-wry-requires c κs = search needs
-
-jump-requires : tie.Need-jump-requires
-jump-requires c κs = search needs
-
-trap-requires : tie.Need-trap-requires
-trap-requires c κs = search needs
-
-window-requires : tie.Need-window-requires
-window-requires c κs = search needs
-
-window-requires-2 : tie.Need-window-requires-2
-window-requires-2 c κs = search needs
-
 returns : tie.Need-returns
 returns c = rw (c .before .match .keys1) (c .shift .ensures)
 
@@ -67,22 +40,6 @@ pub other2-spec : {M : Type 1} → statement M
 other2-spec =
     tie.close
     (tie.spec
-    shift-requires
-    shift-requires-2
-    shift-requires-3
-    rdy-requires
-    wry-requires
-    jump-requires
-    trap-requires
-    window-requires
-    window-requires-2
-    returns
-    returns-2
-    returns-3
-    returns-4
-    returns-5
-    returns-6
-    returns-7
-    returns-8
-    returns-9
-    returns-10)
+    (λ c κs. search needs) (λ c κs. search needs) (λ c κs. search needs) (λ c κs. search needs) (λ c κs. search needs)
+    (λ c κs. search needs) (λ c κs. search needs) (λ c κs. search needs) (λ c κs. search needs) returns returns-2
+    returns-3 returns-4 returns-5 returns-6 returns-7 returns-8 returns-9 returns-10)

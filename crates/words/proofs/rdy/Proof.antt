@@ -3,19 +3,13 @@ use borrow.Author.Needs.{needs}
 use Rattle.words.proofs.rdy.Statement.{statement}
 use Rattle.words.proofs.rdy.Tie as tie
 
-rdy-strays-requires : tie.Need-rdy-strays-requires
-rdy-strays-requires c κs = search needs
-
 returns : tie.Need-returns
 unfolding strictly unusedSet
 returns c = rw (← c .before .rdy-strays .ensures, c .if1 .taken)
-
-rd-requires : tie.Need-rd-requires
-rd-requires c κs = search needs
 
 returns-2 : tie.Need-returns-2
 unfolding strictly unusedSet
 returns-2 c = rw (← c .before .before .rdy-strays .ensures, c .before .if1 .left, c .rd .ensures)
 
 pub rdy-spec : {M : Type 1} → statement M
-rdy-spec = tie.close (tie.spec rdy-strays-requires returns rd-requires returns-2)
+rdy-spec = tie.close (tie.spec (λ c κs. search needs) returns (λ c κs. search needs) returns-2)

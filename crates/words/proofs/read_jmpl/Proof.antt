@@ -4,15 +4,6 @@ use borrow.Author.Needs.{needs}
 use Rattle.words.proofs.read_jmpl.Statement.{statement}
 use Rattle.words.proofs.read_jmpl.Tie as tie
 
-op-requires : tie.Need-op-requires
-op-requires c κs = search needs
-
-op3-requires : tie.Need-op3-requires
-op3-requires c κs = search needs
-
-jump-requires : tie.Need-jump-requires
-jump-requires c κs = search needs
-
 returns : tie.Need-returns
 returns c = c .jump .ensures ∙ jmpl-read _ (sym (c .before .before .before .before .op .ensures) ∙ c .before .before .before .if1 .taken) (sym (c .before .before .op3 .ensures) ∙ c .before .if2 .taken)
 
@@ -23,4 +14,7 @@ returns-3 : tie.Need-returns-3
 returns-3 c = no-jmpl-op _ (λ e. c .if1 .left (c .before .op .ensures ∙ e))
 
 pub read-jmpl-spec : {M : Type 1} → statement M
-read-jmpl-spec = tie.close (tie.spec op-requires op3-requires jump-requires returns returns-2 returns-3)
+read-jmpl-spec =
+    tie.close
+    (tie.spec
+    (λ c κs. search needs) (λ c κs. search needs) (λ c κs. search needs) returns returns-2 returns-3)

@@ -4,21 +4,9 @@ use borrow.Author.Needs.{needs}
 use Rattle.words.proofs.shift.Statement.{statement}
 use Rattle.words.proofs.shift.Tie as tie
 
-high8-requires : tie.Need-high8-requires
-high8-requires c κs = search needs
-
 returns : tie.Need-returns
 unfolding strictly unusedSet setFrom
 returns c = rw (← c .before .high8 .ensures, ne-eqb _ _ (c .if1 .taken))
-
-rd-requires : tie.Need-rd-requires
-rd-requires c κs = search needs
-
-rs1-requires : tie.Need-rs1-requires
-rs1-requires c κs = search needs
-
-second-operand-requires : tie.Need-second-operand-requires
-second-operand-requires c κs = search needs
 
 returns-2 : tie.Need-returns-2
 unfolding strictly unusedSet setFrom
@@ -28,9 +16,4 @@ pub shift-spec : {M : Type 1} → statement M
 shift-spec =
     tie.close
     (tie.spec
-    high8-requires
-    returns
-    rd-requires
-    rs1-requires
-    second-operand-requires
-    returns-2)
+    (λ c κs. search needs) returns (λ c κs. search needs) (λ c κs. search needs) (λ c κs. search needs) returns-2)

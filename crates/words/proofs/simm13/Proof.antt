@@ -9,11 +9,8 @@ use Rattle.words.proofs.simm13.Tie as tie
 add-subtract : tie.Need-add-subtract
 add-subtract c = record { fits = omega (arith, mask-lt (c .args .word) 13) }
 
-subtract-requires : tie.Need-subtract-requires
-subtract-requires c κs = search needs
-
 returns : tie.Need-returns
 returns c = c .subtract .ensures ∙ extended 4096 13 _ _ (low-bits _ 13) refl refl (omega arith)
 
 pub simm13-spec : {M : Type 1} → statement M
-simm13-spec = tie.close (tie.spec add-subtract subtract-requires returns)
+simm13-spec = tie.close (tie.spec add-subtract (λ c κs. search needs) returns)

@@ -5,16 +5,10 @@ use borrow.Author.Needs.{needs}
 use Rattle.words.proofs.trap_strays.Statement.{statement}
 use Rattle.words.proofs.trap_strays.Tie as tie
 
-annul-bit-requires : tie.Need-annul-bit-requires
-annul-bit-requires c κs = search needs
-
 returns : tie.Need-returns
 returns c =
     let e : bitSet (c .before .before .args .word) 29 ≡ true = sym (c .before .annul-bit .ensures) ∙ c .if1 .taken in
     rw e
-
-high6-requires : tie.Need-high6-requires
-high6-requires c κs = search needs
 
 returns-2 : tie.Need-returns-2
 unfolding setFrom
@@ -23,4 +17,4 @@ returns-2 c =
     rw (e, c .high6 .ensures)
 
 pub trap-strays-spec : {M : Type 1} → statement M
-trap-strays-spec = tie.close (tie.spec annul-bit-requires returns high6-requires returns-2)
+trap-strays-spec = tie.close (tie.spec (λ c κs. search needs) returns (λ c κs. search needs) returns-2)

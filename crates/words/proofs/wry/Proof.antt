@@ -4,25 +4,13 @@ use borrow.Author.Needs.{needs}
 use Rattle.words.proofs.wry.Statement.{statement}
 use Rattle.words.proofs.wry.Tie as tie
 
-register-strays-requires : tie.Need-register-strays-requires
-register-strays-requires c κs = search needs
-
 returns : tie.Need-returns
 unfolding strictly unusedSet wryStrays
 returns c = rw (← c .before .register-strays .ensures, c .if1 .taken)
 
-rd-requires : tie.Need-rd-requires
-rd-requires c κs = search needs
-
 returns-2 : tie.Need-returns-2
 unfolding strictly unusedSet wryStrays
 returns-2 c = rw (← c .before .before .before .register-strays .ensures, c .before .before .if1 .left, ← c .before .rd .ensures, ne-eqb _ _ (c .if2 .taken))
-
-rs1-requires : tie.Need-rs1-requires
-rs1-requires c κs = search needs
-
-second-operand-requires : tie.Need-second-operand-requires
-second-operand-requires c κs = search needs
 
 returns-3 : tie.Need-returns-3
 unfolding strictly unusedSet wryStrays
@@ -32,10 +20,5 @@ pub wry-spec : {M : Type 1} → statement M
 wry-spec =
     tie.close
     (tie.spec
-    register-strays-requires
-    returns
-    rd-requires
-    returns-2
-    rs1-requires
-    second-operand-requires
+    (λ c κs. search needs) returns (λ c κs. search needs) returns-2 (λ c κs. search needs) (λ c κs. search needs)
     returns-3)

@@ -61,15 +61,5 @@ pub put-digits-spec : {M : Type 1} → statement M
 put-digits-spec =
     tie.close
     (tie.spec
-    Inv-loop
-    μ-loop
-    loop-holds
-    digit-requires
-    slice-write-text
-    sub-i
-    loop-less
-    loop-again
-    digit-requires-2
-    slice-write-text-2
-    same-length
-    returns)
+    Inv-loop μ-loop loop-holds digit-requires slice-write-text sub-i loop-less loop-again digit-requires-2
+    slice-write-text-2 same-length returns)

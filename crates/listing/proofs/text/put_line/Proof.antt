@@ -20,29 +20,8 @@ abbrev μ-loop : tie.MeasureT-loop
 loop-holds : tie.Need-loop-holds Inv-loop μ-loop
 loop-holds c = (omega arith, refl, omega arith, refl, refl)
 
-mul-put-number : tie.Need-mul-put-number Inv-loop μ-loop
-mul-put-number c = search needs
-
-shared-slice-read-put-number : tie.Need-shared-slice-read-put-number Inv-loop μ-loop
-shared-slice-read-put-number c = search needs
-
 put-number-requires : tie.Need-put-number-requires Inv-loop μ-loop
 put-number-requires c κs = omega arith
-
-add-j : tie.Need-add-j Inv-loop μ-loop
-add-j c = search needs
-
-separator-requires : tie.Need-separator-requires Inv-loop μ-loop
-separator-requires c κs = search needs
-
-slice-write-out : tie.Need-slice-write-out Inv-loop μ-loop
-slice-write-out c = search needs
-
-add-k : tie.Need-add-k Inv-loop μ-loop
-add-k c = search needs
-
-loop-less : tie.Need-loop-less Inv-loop μ-loop
-loop-less c = search needs
 
 loop-again : tie.Need-loop-again Inv-loop μ-loop
 loop-again c = let d = c .before .before .before .before .before .before in
@@ -52,9 +31,6 @@ loop-again c = let d = c .before .before .before .before .before .before in
     let o : b .k ≤ length (b .out) = omega arith in
     let turn = line-goes (s .args .list .now) (b .j) (d .loop-test .taken) o (omega (arith, w .end, w .fits)) w (c .separator .ensures) (b .inv .3) (b .inv .4) in
     (omega arith, simp length-set (omega arith), omega (arith, w .end, w .fits), turn .0, turn .1)
-
-same-length : tie.Need-same-length Inv-loop μ-loop
-same-length c = search needs
 
 returns : tie.Need-returns Inv-loop μ-loop
 returns c = let b = c .before .loop in
@@ -66,17 +42,6 @@ pub put-line-spec : {M : Type 1} → statement M
 put-line-spec =
     tie.close
     (tie.spec
-    Inv-loop
-    μ-loop
-    loop-holds
-    mul-put-number
-    shared-slice-read-put-number
-    put-number-requires
-    add-j
-    separator-requires
-    slice-write-out
-    add-k
-    loop-less
-    loop-again
-    same-length
+    Inv-loop μ-loop loop-holds (λ c. search needs) (λ c. search needs) put-number-requires (λ c. search needs)
+    (λ c κs. search needs) (λ c. search needs) (λ c. search needs) (λ c. search needs) loop-again (λ c. search needs)
     returns)

@@ -3,18 +3,9 @@ use borrow.Author.Needs.{needs}
 use Rattle.machine.proofs.registers.address.Statement.{statement}
 use Rattle.machine.proofs.registers.address.Tie as tie
 
-reg-requires : tie.Need-reg-requires
-reg-requires c κs = search needs
-
-value-requires : tie.Need-value-requires
-value-requires c κs = search needs
-
-add-requires : tie.Need-add-requires
-add-requires c κs = search needs
-
 returns : tie.Need-returns
 unfolding addressOf
 returns c = rw (← c .before .before .reg .ensures, ← c .before .value .ensures) (c .add .ensures)
 
 pub address-spec : {M : Type 1} → statement M
-address-spec = tie.close (tie.spec reg-requires value-requires add-requires returns)
+address-spec = tie.close (tie.spec (λ c κs. search needs) (λ c κs. search needs) (λ c κs. search needs) returns)

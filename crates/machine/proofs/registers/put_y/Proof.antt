@@ -4,12 +4,9 @@ use borrow.Author.Needs.{needs}
 use Rattle.machine.proofs.registers.put_y.Statement.{statement}
 use Rattle.machine.proofs.registers.put_y.Tie as tie
 
-element-write-regs : tie.Need-element-write-regs
-element-write-regs c = search needs
-
 returns : tie.Need-returns
 unfolding putY
 returns c = refl
 
 pub put-y-spec : {M : Type 1} → statement M
-put-y-spec = tie.close (tie.spec element-write-regs returns)
+put-y-spec = tie.close (tie.spec (λ c. search needs) returns)

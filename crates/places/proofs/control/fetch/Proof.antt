@@ -5,18 +5,6 @@ use borrow.Author.Needs.{needs}
 use Rattle.places.proofs.control.fetch.Statement.{statement}
 use Rattle.places.proofs.control.fetch.Tie as tie
 
-subtract-requires : tie.Need-subtract-requires
-subtract-requires c κs = search needs
-
-cast-at : tie.Need-cast-at
-cast-at c = search needs
-
-add-if1 : tie.Need-add-if1
-add-if1 c = search needs
-
-read-number-requires : tie.Need-read-number-requires
-read-number-requires c κs = search needs
-
 returns : tie.Need-returns
 unfolding wordOf wordIn inImage
 returns c = rw (← c .before .before .subtract .ensures, le-leb _ _ (c .before .if1 .taken), ← c .read-number .ensures)
@@ -27,4 +15,6 @@ returns-2 c = rw (← c .before .subtract .ensures, lt-leb _ _ (c .if1 .left))
 
 pub fetch-spec : {M : Type 1} → statement M
 fetch-spec =
-    tie.close (tie.spec subtract-requires cast-at add-if1 read-number-requires returns returns-2)
+    tie.close
+    (tie.spec
+    (λ c κs. search needs) (λ c. search needs) (λ c. search needs) (λ c κs. search needs) returns returns-2)

@@ -1,32 +1,15 @@
 use Rattle.model.specs.Places.{mayBeHeld}
 use Rattle.places.specs.Control.{transferred}
-use Rattle.places.proofs.Flows.{annuls, idle}
+use Rattle.model.proofs.Transfers.{annuls}
+use Rattle.places.proofs.Flows.{idle}
 use mathlib.Core.Path.{sym}
 use borrow.Author.Needs.{needs}
 use Rattle.places.proofs.control.may_be_held.Statement.{statement}
 use Rattle.places.proofs.control.may_be_held.Tie as tie
 
-enum-told : tie.Need-enum-told
-enum-told c = search needs
-
-enum-told-2 : tie.Need-enum-told-2
-enum-told-2 c = search needs
-
-enum-told-3 : tie.Need-enum-told-3
-enum-told-3 c = search needs
-
-enum-known-f : tie.Need-enum-known-f
-enum-known-f c = search needs
-
-enum-known-f-2 : tie.Need-enum-known-f-2
-enum-known-f-2 c = search needs
-
 returns : tie.Need-returns
 unfolding mayBeHeld transferred
 returns c = rw (c .before .before .f2 .given .1) (sym (annuls _ _ (c .if1 .taken)))
-
-enum-known-f-3 : tie.Need-enum-known-f-3
-enum-known-f-3 c = search needs
 
 returns-2 : tie.Need-returns-2
 unfolding mayBeHeld transferred
@@ -56,16 +39,5 @@ pub may-be-held-spec : {M : Type 1} → statement M
 may-be-held-spec =
     tie.close
     (tie.spec
-    enum-told
-    enum-told-2
-    enum-told-3
-    enum-known-f
-    enum-known-f-2
-    returns
-    enum-known-f-3
-    returns-2
-    returns-3
-    returns-4
-    returns-5
-    returns-6
-    returns-7)
+    (λ c. search needs) (λ c. search needs) (λ c. search needs) (λ c. search needs) (λ c. search needs) returns
+    (λ c. search needs) returns-2 returns-3 returns-4 returns-5 returns-6 returns-7)

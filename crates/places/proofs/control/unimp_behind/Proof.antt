@@ -4,21 +4,6 @@ use borrow.Author.Needs.{needs}
 use Rattle.places.proofs.control.unimp_behind.Statement.{statement}
 use Rattle.places.proofs.control.unimp_behind.Tie as tie
 
-further-requires : tie.Need-further-requires
-further-requires c κs = search needs
-
-fetch-requires : tie.Need-fetch-requires
-fetch-requires c κs = search needs
-
-enum-known-f : tie.Need-enum-known-f
-enum-known-f c = search needs
-
-is-unimp-requires : tie.Need-is-unimp-requires
-is-unimp-requires c κs = search needs
-
-enum-told : tie.Need-enum-told
-enum-told c = search needs
-
 returns : tie.Need-returns
 unfolding unimpIn unimpBehind
 returns c = let b = c .before .before .before .before in
@@ -33,10 +18,5 @@ pub unimp-behind-spec : {M : Type 1} → statement M
 unimp-behind-spec =
     tie.close
     (tie.spec
-    further-requires
-    fetch-requires
-    enum-known-f
-    is-unimp-requires
-    enum-told
-    returns
-    returns-2)
+    (λ c κs. search needs) (λ c κs. search needs) (λ c. search needs) (λ c κs. search needs) (λ c. search needs)
+    returns returns-2)

@@ -2,9 +2,6 @@ use borrow.Author.Needs.{needs}
 use Rattle.places.proofs.control.untaken.Statement.{statement}
 use Rattle.places.proofs.control.untaken.Tie as tie
 
-further-requires : tie.Need-further-requires
-further-requires c κs = search needs
-
 returns : tie.Need-returns
 returns c = rw (c .before .if1 .taken) (c .further .ensures)
 
@@ -12,4 +9,4 @@ returns-2 : tie.Need-returns-2
 returns-2 c = search needs
 
 pub untaken-spec : {M : Type 1} → statement M
-untaken-spec = tie.close (tie.spec further-requires returns returns-2)
+untaken-spec = tie.close (tie.spec (λ c κs. search needs) returns returns-2)

@@ -4,26 +4,11 @@ use borrow.Author.Needs.{needs}
 use Rattle.places.proofs.index.enter.Statement.{statement}
 use Rattle.places.proofs.index.enter.Tie as tie
 
-hash-requires : tie.Need-hash-requires
-hash-requires c κs = search needs
-
 mul-links : tie.Need-mul-links
 mul-links c = omega (arith, c .hash .ensures, hash-lt (c .before .args .p .0) (c .before .args .n .0))
 
 element-copy-out-links : tie.Need-element-copy-out-links
 element-copy-out-links c = omega (arith, c .hash .ensures, hash-lt (c .before .args .p .0) (c .before .args .n .0))
-
-mul-links-2 : tie.Need-mul-links-2
-mul-links-2 c = search needs
-
-element-write-links : tie.Need-element-write-links
-element-write-links c = search needs
-
-add-heads : tie.Need-add-heads
-add-heads c = search needs
-
-cast-heads : tie.Need-cast-heads
-cast-heads c = search needs
 
 mul-heads : tie.Need-mul-heads
 mul-heads c = omega (arith, c .before .hash .ensures, hash-lt (c .before .before .args .p .0) (c .before .before .args .n .0))
@@ -38,13 +23,5 @@ pub enter-spec : {M : Type 1} → statement M
 enter-spec =
     tie.close
     (tie.spec
-    hash-requires
-    mul-links
-    element-copy-out-links
-    mul-links-2
-    element-write-links
-    add-heads
-    cast-heads
-    mul-heads
-    element-write-heads
-    returns)
+    (λ c κs. search needs) mul-links element-copy-out-links (λ c. search needs) (λ c. search needs) (λ c. search needs)
+    (λ c. search needs) mul-heads element-write-heads returns)

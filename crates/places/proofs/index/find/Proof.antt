@@ -12,9 +12,6 @@ Inv-loop places heads links count p n kind j₀ j = Seeking (placeOf (p .0) (n .
 abbrev μ-loop : tie.MeasureT-loop
 μ-loop places heads links count p n kind j₀ j = j
 
-hash-requires : tie.Need-hash-requires Inv-loop μ-loop
-hash-requires c κs = search needs
-
 mul-j : tie.Need-mul-j Inv-loop μ-loop
 mul-j c = omega (arith, c .hash .ensures, hash-lt (c .before .before .args .p .0) (c .before .before .args .n .0))
 
@@ -26,9 +23,6 @@ cast-j c = let s = seeking-start _ _ _ _ _ (c .before .before .before .pre .0 .i
 
 loop-holds : tie.Need-loop-holds Inv-loop μ-loop
 loop-holds c = seeking-start _ _ _ _ _ (c .before .before .before .pre .0 .index) _ (c .before .hash .ensures ∙ hash-of _ _ _ (c .before .before .before .pre .1))
-
-sub-i : tie.Need-sub-i Inv-loop μ-loop
-sub-i c = search needs
 
 is-place-requires : tie.Need-is-place-requires Inv-loop μ-loop
 is-place-requires c κs = (omega arith, c .before .before .before .before .before .pre .1, c .before .before .before .before .before .pre .0 .index .shows _ (omega arith))
@@ -58,19 +52,5 @@ pub find-spec : {M : Type 1} → statement M
 find-spec =
     tie.close
     (tie.spec
-    Inv-loop
-    μ-loop
-    hash-requires
-    mul-j
-    element-copy-out-j
-    cast-j
-    loop-holds
-    sub-i
-    is-place-requires
-    returns
-    mul-j-2
-    element-copy-out-j-2
-    cast-j-2
-    loop-less
-    loop-again
-    returns-2)
+    Inv-loop μ-loop (λ c κs. search needs) mul-j element-copy-out-j cast-j loop-holds (λ c. search needs)
+    is-place-requires returns mul-j-2 element-copy-out-j-2 cast-j-2 loop-less loop-again returns-2)

@@ -3,33 +3,6 @@ use borrow.Author.Needs.{needs}
 use Rattle.places.proofs.table.write_place.Statement.{statement}
 use Rattle.places.proofs.table.write_place.Tie as tie
 
-mul-write-number : tie.Need-mul-write-number
-mul-write-number c = search needs
-
-write-number-requires : tie.Need-write-number-requires
-write-number-requires c κs = search needs
-
-mul-write-number-2 : tie.Need-mul-write-number-2
-mul-write-number-2 c = search needs
-
-add-write-number : tie.Need-add-write-number
-add-write-number c = search needs
-
-write-number-requires-2 : tie.Need-write-number-requires-2
-write-number-requires-2 c κs = search needs
-
-mul-write-number-3 : tie.Need-mul-write-number-3
-mul-write-number-3 c = search needs
-
-add-write-number-2 : tie.Need-add-write-number-2
-add-write-number-2 c = search needs
-
-write-number-requires-3 : tie.Need-write-number-requires-3
-write-number-requires-3 c κs = search needs
-
-same-length : tie.Need-same-length
-same-length c = search needs
-
 returns : tie.Need-returns
 unfolding putPlace
 returns c = let b = c .before .before .before .before .before .before in
@@ -39,13 +12,5 @@ pub write-place-spec : {M : Type 1} → statement M
 write-place-spec =
     tie.close
     (tie.spec
-    mul-write-number
-    write-number-requires
-    mul-write-number-2
-    add-write-number
-    write-number-requires-2
-    mul-write-number-3
-    add-write-number-2
-    write-number-requires-3
-    same-length
-    returns)
+    (λ c. search needs) (λ c κs. search needs) (λ c. search needs) (λ c. search needs) (λ c κs. search needs)
+    (λ c. search needs) (λ c. search needs) (λ c κs. search needs) (λ c. search needs) returns)

@@ -1,0 +1,3 @@
+pub mod FlagsExact
+pub mod Products
+pub mod ProductsExact

@@ -1,0 +1,3 @@
+pub mod Arithmetic
+pub mod FlagsExact
+pub mod ProductsExact

@@ -1,0 +1,2 @@
+pub mod DataArea
+pub mod Effect

@@ -1,0 +1,2 @@
+pub mod OldState
+pub mod NewState
