@@ -25,12 +25,12 @@ use Rattle.model.specs.Walk.{table, placesOf}
 use Rattle.model.specs.Records.{inFull, first, rowsOf, recordsOf, rowsIn, recordsIn, numbersIn, tableNumbers, recordsNumbers}
 use Rattle.model.specs.NewCore.{New, new, seek, begunAt, newBegun}
 use Rattle.model.specs.Translation.{Handed, translation, placeRoom}
-use Rattle.model.specs.Trails.{Core, Trail, at, trail, entry, entries, closing, opening, Unspent, stood}
-use Rattle.model.specs.Cores.{wholeFile, shownOf, Start, startMachine, oldOver, newOver, oldBegin, newBegin, stepsFor, trailOf, newTrailAt}
+use Rattle.model.specs.Trails.{wholeFile, shownOf, Core, Trail, at, trail, entry, entries, closing, opening, later, Unspent, reached, stood, landed}
+use Rattle.model.specs.Cores.{Start, startMachine, oldOver, newOver, oldBegin, newBegin, stepsFor, trailOf, newTrailAt}
 use Rattle.model.specs.Demand3.{Placed, Begins, Complete, Strays, Equal, Claim, Holds, Demand3}
 use Rattle.model.proofs.Shown.{whole-length, begun-held, begun-shows, begun-again, get-other}
 use Rattle.model.proofs.Hop.{Over}
-use Rattle.model.proofs.Trails.{steady-on, Cut, cuts, run-suc, traced-so, Ended, ends-so, closes-so}
+use Rattle.model.proofs.Trails.{steady-on, Cut, cuts, run-suc, traced-so, as-many-so, Ended, ends-so, closes-so}
 use Rattle.model.proofs.Follows.{Closed, Follower, Meet}
 use Rattle.model.proofs.OldSide.{old-over, oldFollower}
 use Rattle.model.proofs.Groups.{sought, not-sought}
@@ -90,6 +90,10 @@ complete c over k s u =
     let w : Cut c k (trail c (stepsFor (suc k)) k 0 (live s)) (trailOf c (suc k) (live s)) = cuts c (stepsFor (suc k)) k 0 (live s) (rw q u) in
     record {
       traced = traced-so c (stepsFor k) k 0 (live s) (live s) refl;
+      as-many = λ n. let f = stepsFor k + suc n in
+          let i : reached (0 + n) (later (trail c f k 0 (live s))) ≡ min (stood c n (live s) + landed c (run (c .next) n (live s))) k =
+          as-many-so c n f k 0 (live s) (omega arith) in
+          rw (zero-add, steady-on c (stepsFor k) f k 0 (live s) (omega arith) u) at i;
       unspent = u;
       steady = λ f l. steady-on c (stepsFor k) f k 0 (live s) l u;
       full-cut = cuts c (stepsFor k) k 0 (live s) u .filled;

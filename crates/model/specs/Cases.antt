@@ -12,7 +12,7 @@ use Rattle.model.specs.OldCore.{Old, old, oldNext, oldBegun}
 use Rattle.model.specs.Records.{numbersIn}
 use Rattle.model.specs.NewCore.{New, new, newNext}
 use Rattle.model.specs.Translation.{Handed, answerNumbers, translation}
-use Rattle.model.specs.Trails.{Trail, trail, Entry, entry, entries, later, closing}
+use Rattle.model.specs.Trails.{Trail, trail, Entry, entry, entries, later, closing, reached, stood}
 use Rattle.model.specs.StateBytes.{oldSize, newSize, oldBegins, newBegins}
 use Rattle.model.specs.Cores.{Start, oldOver, newOver, oldBegin, newBegin, stepsFor, trailOf, newTrailAt}
 
@@ -51,6 +51,10 @@ ended (state s e) = endOf e
 
 unfoldable pub newEnded : State New → List ℕ
 newEnded (state s e) = endOf e
+
+-- how the new core stands, begun at an address over an image of a length with an empty table
+unfoldable pub newBeginsEnd : ℕ → ℕ → List ℕ
+newBeginsEnd size a = newEnded (newBegin [] 0 size (record { address = a; registers = []; flags = 0; area = [] }))
 
 -- how the new core stands after the step at record r, of records of three numbers each
 unfoldable pub stepAt : ℕ → List ℕ → List ℕ
@@ -100,6 +104,14 @@ beginsWithY a y = record { address = a; registers = set (replicate fileSize 0) 3
 unfoldable pub anyWindows : Start
 anyWindows = record { address = 0; registers = upTo (λ i. i + 1) fileSize; flags = 0; area = [] }
 
+-- begun at 0 with 12 in register 1 and a nesting
+unfoldable pub nestedAt : ℕ → Start
+nestedAt w = record { address = 0; registers = set (set (replicate fileSize 0) 1 12) 33 w; flags = 0; area = [] }
+
+-- begun at 0 in window 3 with c and then every fourth number in the file, N, V and C, and three bytes of data
+unfoldable pub anyState : ℕ → Start
+anyState c = record { address = 0; registers = set (upTo (λ i. 4 * i + c) fileSize) 33 3; flags = 11; area = 1 ∷ 2 ∷ 3 ∷ [] }
+
 -- the old core's trail over an image of words at base 0, cut at k entries
 unfoldable pub oldCut : List ℕ → Start → ℕ → Trail
 oldCut words x k = trailOf (oldOver (bytesOf words) 0 0) k (oldBegin x)
@@ -130,6 +142,21 @@ windowsTold (entry a m ∷ es) = nestingOf (m .registers) ∷ getD (m .registers
 unfoldable pub fileTold : List Entry → List ℕ
 fileTold [] = []
 fileTold (entry a m ∷ es) = m .registers ++ fileTold es
+
+-- all of each entry: its address, the file, the flags and the data; and how the trail closes
+unfoldable pub entriesWhole : List Entry → List ℕ
+entriesWhole [] = []
+entriesWhole (entry a m ∷ es) = a ∷ m .registers ++ (m .flags ∷ m .area ++ entriesWhole es)
+
+unfoldable pub wholeTold : Trail → List ℕ
+wholeTold t = entriesWhole (entries t) ++ endOf (closing t)
+
+-- an entry so: begun by `anyState c`, at a, with r in register 1. The ins, locals and outs of window 3 stand from 82 on
+unfoldable pub whole : ℕ → ℕ → ℕ → ℕ → List ℕ → List ℕ
+whole c a r flags bytes =
+    a ∷ 0 ∷ r ∷ upTo (λ i. 4 * i + (8 + c)) 31
+    ++ (3 ∷ upTo (λ i. 4 * i + (136 + c)) 48 ++ upTo (λ i. 4 * i + (96 + c)) 8 ++ upTo (λ i. 4 * i + (64 + c)) 8 ++ upTo (λ i. 4 * i + (32 + c)) 8
+    ++ upTo (λ i. 4 * i + (424 + c)) 56 ++ (flags ∷ bytes))
 
 -- ---------------------------------------------------------------- images
 -- register 1 to local 0 and to out 0; a save; register 1 to local 0; ta 0
@@ -219,6 +246,28 @@ forbiddenPast after = 0x40000006 ∷ nop ∷ after ∷ 0x81C3E008 ∷ 0x10800003
 -- umul %g1, %g1, %g2; rd %y, %g1; ta 0
 abbrev pub squares : List ℕ
 squares = 0x84504001 ∷ 0x83400000 ∷ 0x91D02000 ∷ []
+
+-- ba 12; stb %g1 at 1; illegal; subcc %g0, 1, %g1; ta 0
+abbrev pub touches : List ℕ
+touches = 0x10800003 ∷ 0xC2282001 ∷ 0 ∷ 0x82A02001 ∷ 0x91D02000 ∷ []
+
+-- jmpl %g1 + 0 without link; a word that it holds; two words that nothing names
+abbrev pub held : ℕ → List ℕ
+held word = 0x81C06000 ∷ word ∷ nop ∷ nop ∷ []
+
+-- how the trails close in which a word stands in a plain place, in a delay slot and held; the new core's where it is not illegal
+unfoldable pub oldCloses : ℕ → ℕ → List ℕ
+oldCloses w word = oldTold (word ∷ []) (nestedAt w) 9 ++ oldTold (slotted word) (nestedAt w) 9 ++ oldTold (held word) (nestedAt w) 9
+
+unfoldable pub newCloses : ℕ → ℕ → List ℕ
+newCloses w word = newTold 2 3 (word ∷ []) (nestedAt w) 9 ++ newTold 4 6 (slotted word) (nestedAt w) 9 ++ newTold 2 4 (held word) (nestedAt w) 9
+
+-- a table with two plain places of one address behind a slot place of it, and records that go by the held address, end with 2 and end with 3
+abbrev pub twice : List ℕ
+twice = 8 ∷ 20 ∷ 1 ∷ 2 ∷ 8 ∷ 12 ∷ 0 ∷ 1 ∷ 8 ∷ 12 ∷ 0 ∷ 2 ∷ []
+
+abbrev pub goesOrEnds : List ℕ
+goesOrEnds = 6 ∷ 0 ∷ 0 ∷ 7 ∷ 2 ∷ 5 ∷ 7 ∷ 3 ∷ 6 ∷ []
 
 abbrev row : ℕ → List ℕ → List ℕ → Row
 row p got want = record { case = p; got = got; want = want }
@@ -516,6 +565,71 @@ cases =
     -- "demand 3 takes any windows and any nesting from 0 to 6, and a nesting handed in above 6 counts as 6": the whole file that a first entry shows
     ∷ row 0 (fileTold (entries (oldCut windows anyWindows 1))) (0 ∷ upTo (λ i. i + 2) 32 ++ (6 ∷ upTo (λ i. i + 35) 96 ++ upTo (λ i. i + 25) 8 ++ upTo (λ i. i + 17) 8 ++ upTo (λ i. i + 9) 8 ++ upTo (λ i. i + 155) 8))
     ∷ row 0 (fileTold (entries (newCut 5 9 windows anyWindows 1))) (0 ∷ upTo (λ i. i + 2) 32 ++ (6 ∷ upTo (λ i. i + 35) 96 ++ upTo (λ i. i + 25) 8 ++ upTo (λ i. i + 17) 8 ++ upTo (λ i. i + 9) 8 ++ upTo (λ i. i + 155) 8))
+    -- and in a delay slot
+    ∷ row 0 (fileTold (entries (oldCut p1 anyWindows 2))) ((0 ∷ upTo (λ i. i + 2) 32 ++ (6 ∷ upTo (λ i. i + 35) 96 ++ upTo (λ i. i + 25) 8 ++ upTo (λ i. i + 17) 8 ++ upTo (λ i. i + 9) 8 ++ upTo (λ i. i + 155) 8)) ++ (0 ∷ upTo (λ i. i + 2) 32 ++ (6 ∷ upTo (λ i. i + 35) 96 ++ upTo (λ i. i + 25) 8 ++ upTo (λ i. i + 17) 8 ++ upTo (λ i. i + 9) 8 ++ upTo (λ i. i + 155) 8)))
+    ∷ row 0 (fileTold (entries (newCut 3 4 p1 anyWindows 2))) ((0 ∷ upTo (λ i. i + 2) 32 ++ (6 ∷ upTo (λ i. i + 35) 96 ++ upTo (λ i. i + 25) 8 ++ upTo (λ i. i + 17) 8 ++ upTo (λ i. i + 9) 8 ++ upTo (λ i. i + 155) 8)) ++ (0 ∷ upTo (λ i. i + 2) 32 ++ (6 ∷ upTo (λ i. i + 35) 96 ++ upTo (λ i. i + 25) 8 ++ upTo (λ i. i + 17) 8 ++ upTo (λ i. i + 9) 8 ++ upTo (λ i. i + 155) 8)))
+    ∷ row 0 (oldTold (slotted 0) (begins 0 7 0) 9) (0 ∷ 0 ∷ 7 ∷ 1 ∷ 4 ∷ 7 ∷ 3 ∷ 4 ∷ [])
+    ∷ row 0 (newTold 2 2 (slotted 0) (begins 0 7 0) 9) (0 ∷ 0 ∷ 7 ∷ 1 ∷ 4 ∷ 7 ∷ 3 ∷ 4 ∷ [])
+    ∷ row 0 (told (trail (newOver (bytesOf (5 ∷ 0 ∷ 0 ∷ [])) (bytesOf (8 ∷ 0 ∷ 9 ∷ 0 ∷ 4 ∷ 8 ∷ 0 ∷ 0 ∷ [])) 0 16 0) 2 9 0 (live (new (machine (replicate fileSize 0) 0 []) 0 0)))) (0 ∷ 8 ∷ 0 ∷ 1 ∷ 8 ∷ 0 ∷ 0 ∷ 0 ∷ [])
+    -- an entry shows all of its state wherever it stands, and each stands: in a plain place, a slot, behind a word that wrote data and one that set
+    -- flags; held; and at a landing, whose word is in the image and has no place, or is outside
+    ∷ row 0 (wholeTold (oldCut touches (anyState 8) 9))
+    (whole 8 0 12 11 (1 ∷ 2 ∷ 3 ∷ []) ++ whole 8 4 12 11 (1 ∷ 2 ∷ 3 ∷ []) ++ whole 8 12 12 11 (1 ∷ 12 ∷ 3 ∷ [])
+    ++ whole 8 16 4294967295 9 (1 ∷ 12 ∷ 3 ∷ []) ++ (1 ∷ 0 ∷ []))
+    ∷ row 0 (wholeTold (newCut 4 6 touches (anyState 8) 9))
+    (whole 8 0 12 11 (1 ∷ 2 ∷ 3 ∷ []) ++ whole 8 4 12 11 (1 ∷ 2 ∷ 3 ∷ []) ++ whole 8 12 12 11 (1 ∷ 12 ∷ 3 ∷ [])
+    ++ whole 8 16 4294967295 9 (1 ∷ 12 ∷ 3 ∷ []) ++ (1 ∷ 0 ∷ []))
+    ∷ row 0 (wholeTold (oldCut strays (anyState 8) 3))
+    (whole 8 0 12 11 (1 ∷ 2 ∷ 3 ∷ []) ++ whole 8 4 12 11 (1 ∷ 2 ∷ 3 ∷ []) ++ whole 8 12 13 11 (1 ∷ 2 ∷ 3 ∷ []) ++ (0 ∷ 0 ∷ []))
+    ∷ row 0 (wholeTold (newCut 2 4 strays (anyState 8) 9))
+    (whole 8 0 12 11 (1 ∷ 2 ∷ 3 ∷ []) ++ whole 8 4 12 11 (1 ∷ 2 ∷ 3 ∷ []) ++ whole 8 12 13 11 (1 ∷ 2 ∷ 3 ∷ []) ++ (6 ∷ 12 ∷ []))
+    ∷ row 0 (wholeTold (oldCut strays (anyState 60) 9))
+    (whole 60 0 64 11 (1 ∷ 2 ∷ 3 ∷ []) ++ whole 60 4 64 11 (1 ∷ 2 ∷ 3 ∷ []) ++ whole 60 64 65 11 (1 ∷ 2 ∷ 3 ∷ []) ++ (2 ∷ 64 ∷ []))
+    ∷ row 0 (wholeTold (newCut 2 4 strays (anyState 60) 9))
+    (whole 60 0 64 11 (1 ∷ 2 ∷ 3 ∷ []) ++ whole 60 4 64 11 (1 ∷ 2 ∷ 3 ∷ []) ++ whole 60 64 65 11 (1 ∷ 2 ∷ 3 ∷ []) ++ (2 ∷ 64 ∷ []))
+    -- trails that close with 3, 4, 5, 8 and 9, in a plain place, in a slot and held
+    ∷ row 0 (oldCloses 0 0) (0 ∷ 0 ∷ 12 ∷ 3 ∷ 0 ∷ 0 ∷ 0 ∷ 12 ∷ 1 ∷ 4 ∷ 12 ∷ 3 ∷ 4 ∷ 0 ∷ 0 ∷ 12 ∷ 1 ∷ 4 ∷ 12 ∷ 3 ∷ 4 ∷ [])
+    ∷ row 0 (newTold 1 1 (0 ∷ []) (nestedAt 0) 9 ++ newTold 2 2 (slotted 0) (nestedAt 0) 9 ++ newTold 2 3 (held 0) (nestedAt 0) 9)
+    (0 ∷ 0 ∷ 12 ∷ 3 ∷ 0 ∷ 0 ∷ 0 ∷ 12 ∷ 1 ∷ 4 ∷ 12 ∷ 3 ∷ 4 ∷ 0 ∷ 0 ∷ 12 ∷ 2 ∷ 4 ∷ 12 ∷ 3 ∷ 4 ∷ [])
+    ∷ row 0 (oldCloses 0 0xC4006002) (0 ∷ 0 ∷ 12 ∷ 4 ∷ 14 ∷ 0 ∷ 0 ∷ 12 ∷ 1 ∷ 4 ∷ 12 ∷ 4 ∷ 14 ∷ 0 ∷ 0 ∷ 12 ∷ 1 ∷ 4 ∷ 12 ∷ 4 ∷ 14 ∷ [])
+    ∷ row 0 (newCloses 0 0xC4006002) (0 ∷ 0 ∷ 12 ∷ 4 ∷ 14 ∷ 0 ∷ 0 ∷ 12 ∷ 1 ∷ 4 ∷ 12 ∷ 4 ∷ 14 ∷ 0 ∷ 0 ∷ 12 ∷ 2 ∷ 4 ∷ 12 ∷ 4 ∷ 14 ∷ [])
+    ∷ row 0 (oldCloses 0 0xC4006000) (0 ∷ 0 ∷ 12 ∷ 5 ∷ 12 ∷ 0 ∷ 0 ∷ 12 ∷ 1 ∷ 4 ∷ 12 ∷ 5 ∷ 12 ∷ 0 ∷ 0 ∷ 12 ∷ 1 ∷ 4 ∷ 12 ∷ 5 ∷ 12 ∷ [])
+    ∷ row 0 (newCloses 0 0xC4006000) (0 ∷ 0 ∷ 12 ∷ 5 ∷ 12 ∷ 0 ∷ 0 ∷ 12 ∷ 1 ∷ 4 ∷ 12 ∷ 5 ∷ 12 ∷ 0 ∷ 0 ∷ 12 ∷ 2 ∷ 4 ∷ 12 ∷ 5 ∷ 12 ∷ [])
+    ∷ row 0 (oldCloses 6 0x81E00000) (0 ∷ 0 ∷ 12 ∷ 8 ∷ 6 ∷ 0 ∷ 0 ∷ 12 ∷ 1 ∷ 4 ∷ 12 ∷ 8 ∷ 6 ∷ 0 ∷ 0 ∷ 12 ∷ 1 ∷ 4 ∷ 12 ∷ 8 ∷ 6 ∷ [])
+    ∷ row 0 (newCloses 6 0x81E00000) (0 ∷ 0 ∷ 12 ∷ 8 ∷ 6 ∷ 0 ∷ 0 ∷ 12 ∷ 1 ∷ 4 ∷ 12 ∷ 8 ∷ 6 ∷ 0 ∷ 0 ∷ 12 ∷ 2 ∷ 4 ∷ 12 ∷ 8 ∷ 6 ∷ [])
+    ∷ row 0 (oldCloses 0 0x81E80000) (0 ∷ 0 ∷ 12 ∷ 9 ∷ 0 ∷ 0 ∷ 0 ∷ 12 ∷ 1 ∷ 4 ∷ 12 ∷ 9 ∷ 0 ∷ 0 ∷ 0 ∷ 12 ∷ 1 ∷ 4 ∷ 12 ∷ 9 ∷ 0 ∷ [])
+    ∷ row 0 (newCloses 0 0x81E80000) (0 ∷ 0 ∷ 12 ∷ 9 ∷ 0 ∷ 0 ∷ 0 ∷ 12 ∷ 1 ∷ 4 ∷ 12 ∷ 9 ∷ 0 ∷ 0 ∷ 0 ∷ 12 ∷ 2 ∷ 4 ∷ 12 ∷ 9 ∷ 0 ∷ [])
+    -- how many entries so many steps lead to, and how many stand: an annulled word between two of them has none
+    ∷ row 0 (reached 0 (0 ∷ 2 ∷ 1 ∷ []) ∷ reached 1 (0 ∷ 2 ∷ 1 ∷ []) ∷ reached 2 (0 ∷ 2 ∷ 1 ∷ []) ∷ reached 3 (0 ∷ 2 ∷ 1 ∷ []) ∷ reached 9 (0 ∷ 2 ∷ 1 ∷ []) ∷ [])
+    (1 ∷ 1 ∷ 2 ∷ 3 ∷ 3 ∷ [])
+    ∷ row 0 (map (λ n. stood (oldOver (bytesOf p4) 0 0) n (oldBegin (begins 0 0 0))) (0 ∷ 1 ∷ 2 ∷ 3 ∷ 4 ∷ 9 ∷ [])) (1 ∷ 1 ∷ 2 ∷ 3 ∷ 3 ∷ 3 ∷ [])
+    -- "a kind 7 whose first is not 2 or 3"
+    ∷ row 0 (stepAt 0 (7 ∷ 2 ∷ 9 ∷ []) ++ stepAt 0 (7 ∷ 3 ∷ 9 ∷ [])) (2 ∷ 9 ∷ 3 ∷ 9 ∷ [])
+    ∷ row 0 (stepAt 0 (7 ∷ 0 ∷ 9 ∷ []) ++ stepAt 0 (7 ∷ 1 ∷ 9 ∷ []) ++ stepAt 0 (7 ∷ 5 ∷ 9 ∷ []) ++ stepAt 0 (7 ∷ 6 ∷ 9 ∷ []) ++ stepAt 0 (7 ∷ 7 ∷ 9 ∷ []))
+    (7 ∷ 0 ∷ 7 ∷ 0 ∷ 7 ∷ 0 ∷ 7 ∷ 0 ∷ 7 ∷ 0 ∷ [])
+    -- "Kind 6 seeks the lowest-numbered plain place of the held address", a begin likewise
+    ∷ row 0 (newEnded (run (newNext (bytesOf goesOrEnds) (bytesOf twice) 0 16 0) 2 (live (new (machine (replicate fileSize 0) 0 []) 0 8)))) (2 ∷ 5 ∷ [])
+    ∷ row 0 (told (trailOf (newOver (bytesOf goesOrEnds) (bytesOf twice) 0 16 0) 9 (newBegin (bytesOf twice) 0 16 (begins 8 7 0)))) (0 ∷ 8 ∷ 7 ∷ 2 ∷ 5 ∷ [])
+    -- "(address − base) modulo 2^32, plus 4, is at most its length": the last word of an image, and one past it; no word at all
+    ∷ row 0 (oldTold (nop ∷ 0x91D02000 ∷ []) (begins 4 7 0) 9 ++ oldTold (nop ∷ 0x91D02000 ∷ []) (begins 8 7 0) 9) (0 ∷ 4 ∷ 7 ∷ 1 ∷ 0 ∷ 0 ∷ 8 ∷ 7 ∷ 2 ∷ 8 ∷ [])
+    ∷ row 0 (newTold 2 3 (nop ∷ 0x91D02000 ∷ []) (begins 4 7 0) 9 ++ newTold 2 3 (nop ∷ 0x91D02000 ∷ []) (begins 8 7 0) 9) (0 ∷ 4 ∷ 7 ∷ 1 ∷ 0 ∷ 0 ∷ 8 ∷ 7 ∷ 2 ∷ 8 ∷ [])
+    ∷ row 0 (told (trailOf (oldOver (replicate 7 0) 0 0) 9 (oldBegin (begins 4 7 0))) ++ told (trailOf (oldOver (replicate 3 0) 0 0) 9 (oldBegin (begins 0 7 0)))
+    ++ oldTold [] (begins 0 7 0) 9)
+    (0 ∷ 4 ∷ 7 ∷ 2 ∷ 4 ∷ 0 ∷ 0 ∷ 7 ∷ 2 ∷ 0 ∷ 0 ∷ 0 ∷ 7 ∷ 2 ∷ 0 ∷ [])
+    ∷ row 0 (newBeginsEnd 8 4 ++ newBeginsEnd 7 4 ++ newBeginsEnd 4 0 ++ newBeginsEnd 3 0 ++ newBeginsEnd 0 0) (6 ∷ 4 ∷ 2 ∷ 4 ∷ 6 ∷ 0 ∷ 2 ∷ 0 ∷ 2 ∷ 0 ∷ [])
+    ∷ row 0 (answerNumbers (given p1 (12 ∷ []) 16 12 .answer) ++ answerNumbers (given p1 (16 ∷ []) 16 12 .answer)) (0 ∷ 1 ∷ 1 ∷ 3 ∷ 1 ∷ 0 ∷ [])
+    -- "Bicc 0 without annul ..: plain n": one 5, in a plain place and in a slot; held: 1, 6
+    ∷ row 0 (listed 3 4 (0x00800004 ∷ nop ∷ 0 ∷ []))
+    (0 ∷ 3 ∷ 4 ∷ 0 ∷ 4 ∷ 0 ∷ 0 ∷ 4 ∷ 8 ∷ 0 ∷ 1 ∷ 8 ∷ 12 ∷ 0 ∷ 3 ∷ 5 ∷ 1 ∷ 0 ∷ 1 ∷ 0x01000000 ∷ 0 ∷ 5 ∷ 3 ∷ 0 ∷ 7 ∷ 3 ∷ 8 ∷ [])
+    ∷ row 0 (listed 4 5 (slotted 0x00800004))
+    (0 ∷ 4 ∷ 5
+    ∷ 0 ∷ 4 ∷ 0 ∷ 0 ∷ 4 ∷ 16 ∷ 1 ∷ 1 ∷ 16 ∷ 20 ∷ 0 ∷ 2 ∷ 20 ∷ 24 ∷ 0 ∷ 4
+    ∷ 5 ∷ 1 ∷ 0 ∷ 5 ∷ 2 ∷ 0 ∷ 1 ∷ 0x01000000 ∷ 0 ∷ 5 ∷ 4 ∷ 0 ∷ 7 ∷ 3 ∷ 20
+    ∷ [])
+    ∷ row 0 (listed 2 4 (held 0x00800004))
+    (0 ∷ 2 ∷ 4 ∷ 0 ∷ 4 ∷ 0 ∷ 0 ∷ 4 ∷ 0 ∷ 2 ∷ 2 ∷ 3 ∷ 0x81C06000 ∷ 0 ∷ 5 ∷ 2 ∷ 0 ∷ 1 ∷ 0x00800004 ∷ 0 ∷ 6 ∷ 0 ∷ 0 ∷ [])
+    ∷ row 0 (oldTold (held 0x00800004) (begins 0 12 0) 3) (0 ∷ 0 ∷ 12 ∷ 1 ∷ 4 ∷ 12 ∷ 1 ∷ 12 ∷ 12 ∷ 0 ∷ 0 ∷ [])
+    ∷ row 0 (newTold 2 4 (held 0x00800004) (begins 0 12 0) 9) (0 ∷ 0 ∷ 12 ∷ 2 ∷ 4 ∷ 12 ∷ 2 ∷ 12 ∷ 12 ∷ 6 ∷ 12 ∷ [])
     ∷ []
 
 pub noCase : Row

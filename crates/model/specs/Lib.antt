@@ -10,6 +10,7 @@ pub mod Translation
 pub mod FirstBadEntry
 pub mod Trails
 pub mod Cores
+pub mod CoreLaws
 pub mod Demand3
 pub mod StateBytes
 pub mod Interface

@@ -11,8 +11,8 @@ use Rattle.machine.specs.Ends.{Ending, ending, endingFrom, State, state}
 use Rattle.machine.specs.Registers.{fileSize, registerOf}
 use Rattle.windows.specs.Windows.{laid, comeIn}
 use Rattle.effects.specs.Effect.{Machine, machine}
-use Rattle.model.specs.OldCore.{Old, old, oldNext, oldBegun}
-use Rattle.model.specs.NewCore.{New, new, newNext, newBegun}
+use Rattle.model.specs.OldCore.{Old, old, oldMachine, oldNext, oldBegun}
+use Rattle.model.specs.NewCore.{New, new, newMachine, newNext, newBegun}
 use Rattle.model.specs.Run.{run, zeroed, dataOf, beyond}
 
 -- numbers 0 to 31 are the registers. 02, N4: "The state and each trail entry gain Y"; N11: "Trail entries show the nesting and every window": what the
@@ -95,12 +95,6 @@ newRuns records places base size db count bytes area =
     newAfter (run (newNext records places base size db) count (newIn bytes (dataOf area))) (beyond area)
 
 -- 01, The old core: "Register 0 reads and shows as 0.", of both cores: whatever the bytes, it is 0 in every state that a run comes to
-abbrev pub oldMachine : Old → Machine
-oldMachine (old m pc npc annul) = m
-
-abbrev pub newMachine : New → Machine
-newMachine (new m r h) = m
-
 abbrev pub ReadsZero : {S : Type 0} → (S → Machine) → State S → Type 0
 ReadsZero machineOf (state s e) = registerOf (machineOf s .registers) 0 ≡ 0
 

@@ -57,6 +57,21 @@ around-ins k h =
     let i : 16 * 0 + 8 * (3 - (24 + k) / 8) + (24 + k) % 8 ≡ k = omega arith in
     rw (le-ltb (8 + k) 8 (omega arith), le-ltb (24 + k) 8 (omega arith), o, i) (omega arith)
 
+apart-at : (w v x y : ℕ) → w < 8 → v < 8 → x < 16 → y < 16 → 34 + (16 * w + x) % 128 ≡ 34 + (16 * v + y) % 128 → (w ≡ v) × (x ≡ y)
+apart-at w v x y a b c d e = (omega arith, omega arith)
+
+at-16 : (w r : ℕ) → 16 ≤ r → placeOf w r ≡ 34 + (16 * w + (8 * (3 - r / 8) + r % 8)) % 128
+unfolding placeOf
+at-16 w r l = rw (le-ltb r 8 (omega arith)) (ap (λ n. 34 + n % 128) (omega arith))
+
+places-own : (w v r s : ℕ) → w < 8 → v < 8 → 16 ≤ r → r < 32 → 16 ≤ s → s < 32 → placeOf w r ≡ placeOf v s → (w ≡ v) × (r ≡ s)
+places-own w v r s a b lr hr ls hs e =
+    let z = apart-at w v (8 * (3 - r / 8) + r % 8) (8 * (3 - s / 8) + s % 8) a b (omega arith) (omega arith) (sym (at-16 w r lr) ∙ e ∙ at-16 v s ls) in
+    (z .0, numbered r s lr hr ls hs (z .1))
+  where
+    numbered : (r s : ℕ) → 16 ≤ r → r < 32 → 16 ≤ s → s < 32 → 8 * (3 - r / 8) + r % 8 ≡ 8 * (3 - s / 8) + s % 8 → r ≡ s
+    numbered r s a b c d e = omega arith
+
 -- ---------------------------------------------------------------- a register is written
 not-first : (rs : List ℕ) (rd t j : ℕ) → (j ≡ 0 → ⊥) → getD (putRegister rs rd t) j 0 ≡ getD (set rs (rd % 32) t) j 0
 unfolding putRegister
@@ -240,6 +255,7 @@ window-laws =
       apart = places-apart;
       overlap = next-ins;
       around = around-ins;
+      own = places-own;
       current = current-so;
       saves = saves-so;
       restores = restores-so;

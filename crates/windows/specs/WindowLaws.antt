@@ -45,6 +45,7 @@ pub record WindowLaws : Type 0 where
   pub apart : (w r s : ℕ) → r < 32 → s < 32 → placeOf w r ≡ placeOf w s → r ≡ s
   pub overlap : (w k : ℕ) → k < 8 → placeOf w (8 + k) ≡ placeOf (w + 1) (24 + k)
   pub around : (k : ℕ) → k < 8 → placeOf 7 (8 + k) ≡ placeOf 0 (24 + k)
+  pub own : (w v r s : ℕ) → w < 8 → v < 8 → 16 ≤ r → r < 32 → 16 ≤ s → s < 32 → placeOf w r ≡ placeOf v s → (w ≡ v) × (r ≡ s)
   -- the registers that a word reads are the current window's
   pub current : (rs : List ℕ) → Held rs → (r : ℕ) → r < 32 → registerOf rs r ≡ inWindow rs (nestingOf rs) r
   -- "A save at 6 or a restore at 0 ends the run and changes nothing"; any other goes on, in the next window or the one before
