@@ -26,7 +26,7 @@ use Rattle.model.specs.Trails.{shownOf, Core, shownAt, Unspent}
 use Rattle.model.specs.Cores.{oldMark, oldOver, newMark, newByHeld, newOver, oldBegin, newBegin, stepsFor, trailOf}
 use Rattle.model.specs.Demand3.{Placed, Complete, Strays, Holds, Demand3}
 use Rattle.model.specs.StateBytes.{oldBehind, newBehind, machineIn, oldIn, oldBytes, newIn, newBytes, After, oldAfter, newAfter, oldBegins, oldRuns, newBegins, newRuns}
-use Rattle.model.specs.Interface.{Bytes, bytes, answered, called, heldBy, oldBytesMark, oldCalls, newBytesMark, newBytesByHeld, newCalls, oldStarted, newStarted, startOf, ReadOff, Interface}
+use Rattle.model.specs.Interface.{Bytes, bytes, answered, called, bytesMachine, oldBytesMark, oldCalls, newBytesMark, newBytesByHeld, newCalls, oldStarted, newStarted, startOf, ReadOff, Interface}
 use Rattle.model.proofs.Hop.{Over}
 use Rattle.model.proofs.Bounds.{SoundOld, SoundNew, found-lt}
 use Rattle.model.proofs.RoundTrip.{data-back, machine-sound}
@@ -69,13 +69,13 @@ module _ (image : List ℕ) (base db : ℕ) (l : List ℕ) where
       go false = refl
 
   -- the bytes hold what is shown of the state, and so show it
-  pub old-holds : (b : Bytes) (s : Old) → OldHolds b s → heldBy oldBehind b ≡ shownOf (oldMachine s)
-  unfolding heldBy oldAfter
+  pub old-holds : (b : Bytes) (s : Old) → OldHolds b s → bytesMachine oldBehind b ≡ shownOf (oldMachine s)
+  unfolding bytesMachine oldAfter
   old-holds b (old m pc npc annul) h =
       let n = length (dataOf l) in
       rw (h .0, data-back l (m .area) (h .1 .0 .sized) .0, old-shows n m pc npc annul 0 0 (h .1, refl), shown-sound n m (h .1 .0) (data-few l))
 
-  old-shown-same : (b : Bytes) (s : Old) → OldHolds b s → shownOf (heldBy oldBehind b) ≡ shownOf (oldMachine s)
+  old-shown-same : (b : Bytes) (s : Old) → OldHolds b s → shownOf (bytesMachine oldBehind b) ≡ shownOf (oldMachine s)
   old-shown-same b (old m pc npc annul) h =
       ap shownOf (old-holds b (old m pc npc annul) h) ∙ shown-again (length (dataOf l)) m (h .1 .0) (data-few l)
 
@@ -119,13 +119,13 @@ module _ (records places : List ℕ) (base size db : ℕ) (br : Below 256 record
       let n = length (dataOf l) in
       rw (h .0, new-record n m r g 0 0 (h .1, refl), new-held n m r g 0 0 (h .1, refl))
 
-  pub new-holds : (b : Bytes) (s : New) → NewHolds b s → heldBy newBehind b ≡ shownOf (newMachine s)
-  unfolding heldBy newAfter
+  pub new-holds : (b : Bytes) (s : New) → NewHolds b s → bytesMachine newBehind b ≡ shownOf (newMachine s)
+  unfolding bytesMachine newAfter
   new-holds b (new m r g) h =
       let n = length (dataOf l) in
       rw (h .0, data-back l (m .area) (h .1 .0 .sized) .0, new-shows n m r g 0 0 (h .1, refl), shown-sound n m (h .1 .0) (data-few l))
 
-  new-shown-same : (b : Bytes) (s : New) → NewHolds b s → shownOf (heldBy newBehind b) ≡ shownOf (newMachine s)
+  new-shown-same : (b : Bytes) (s : New) → NewHolds b s → shownOf (bytesMachine newBehind b) ≡ shownOf (newMachine s)
   new-shown-same b (new m r g) h = ap shownOf (new-holds b (new m r g) h) ∙ shown-again (length (dataOf l)) m (h .1 .0) (data-few l)
 
   pub new-related : Related (newCalls records places base size db) (newOver records places base size db) NewHolds
@@ -168,10 +168,10 @@ unfolding called
 over-called c x = over-answered c (x .ended) (bytes (x .state) (x .area))
 
 -- so what is shown of bytes, wherever calls come to, is what stands in them
-as-held : {S : Type 0} (c : Core Bytes) (d : Core S) (R : Bytes → S → Type 0) → Related c d R
+as-it-stands : {S : Type 0} (c : Core Bytes) (d : Core S) (R : Bytes → S → Type 0) → Related c d R
     → ((b : Bytes) (s : S) → R b s → c .machineOf b ≡ shownAt d s) → (x : State Bytes) (y : State S) → Beside R x y
     → (count : ℕ) (b : Bytes) → run (c .next) count x ≡ live b → shownAt c b ≡ c .machineOf b
-as-held c d R Q holds x y r count b e =
+as-it-stands c d R Q holds x y r count b e =
     let q : Beside R (live b) (run (d .next) count y) = rw e at (run-beside c d R Q count x y r) in
     Q .shows b (q .0) (q .1 .1) ∙ sym (holds b (q .0) (q .1 .1))
 
@@ -255,7 +255,7 @@ module _ (image : List ℕ) (base : ℕ) (entryList : List ℕ) (cap : ℕ) (pla
     old-read =
         record {
           same-trail = old-trails;
-          as-held = as-held OC (oldOver image base db) (OldHolds image base db (b .area)) (old-related image base db (b .area))
+          as-it-stands = as-it-stands OC (oldOver image base db) (OldHolds image base db (b .area)) (old-related image base db (b .area))
               (old-holds image base db (b .area)) (oldStarted p b) (oldBegin (startOf oldBehind p b)) (old-beside image base db (b .area) p (b .state) bb bd lp);
         }
 
@@ -263,7 +263,7 @@ module _ (image : List ℕ) (base : ℕ) (entryList : List ℕ) (cap : ℕ) (pla
     new-read =
         record {
           same-trail = new-trails;
-          as-held = as-held NC N NH related (new-holds records places base size db (L .records-bytes) (L .places-bytes) (c .area)) started begun beside;
+          as-it-stands = as-it-stands NC N NH related (new-holds records places base size db (L .records-bytes) (L .places-bytes) (c .area)) started begun beside;
         }
 
 -- number 0 is acceptance, with the two counts beside it

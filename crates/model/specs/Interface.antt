@@ -39,8 +39,8 @@ called x = answered (x .ended) (bytes (x .state) (x .area))
 
 -- the machine that bytes hold: registers are numbers 0 to 31 of the state, flags number 32, Y and windows what is from its byte `behind` on, and the
 -- data
-unfoldable pub heldBy : ℕ → Bytes → Machine
-heldBy behind b = machine (fileIn behind (b .state)) (numberAt (b .state) 128) (dataOf (b .area))
+unfoldable pub bytesMachine : ℕ → Bytes → Machine
+bytesMachine behind b = machine (fileIn behind (b .state)) (numberAt (b .state) 128) (dataOf (b .area))
 
 -- the old core: PC is number 33 and annul number 35
 unfoldable pub oldBytesMark : Bytes → Option ℕ
@@ -48,7 +48,7 @@ oldBytesMark b = pick (eqb (numberAt (b .state) 140) 0) (some (numberAt (b .stat
 
 abbrev pub oldCalls : List ℕ → ℕ → ℕ → Core Bytes
 oldCalls image base db =
-    record { next = λ b. called (oldRuns image base db 1 (b .state) (b .area)); mark = oldBytesMark; machineOf = heldBy oldBehind; byHeld = λ b. none }
+    record { next = λ b. called (oldRuns image base db 1 (b .state) (b .area)); mark = oldBytesMark; machineOf = bytesMachine oldBehind; byHeld = λ b. none }
 
 -- the new core: the record number is number 33, the held address number 34
 unfoldable pub newBytesMark : List ℕ → Bytes → Option ℕ
@@ -62,7 +62,7 @@ newCalls records places base size db =
     record {
       next = λ b. called (newRuns records places base size db 1 (b .state) (b .area));
       mark = newBytesMark places;
-      machineOf = heldBy newBehind;
+      machineOf = bytesMachine newBehind;
       byHeld = newBytesByHeld records;
     }
 
@@ -83,7 +83,7 @@ startOf behind a b = record { address = a; registers = fileIn behind (b .state);
 -- that stand in the bytes, as they stand
 pub record ReadOff {S : Type 0} (behind k : ℕ) (c : Core Bytes) (x : State Bytes) (d : Core S) (y : State S) : Type 0 where
   pub same-trail : trailOf c k x ≡ trailOf d k y
-  pub as-held : (count : ℕ) (b : Bytes) → run (c .next) count x ≡ live b → shownAt c b ≡ heldBy behind b
+  pub as-it-stands : (count : ℕ) (b : Bytes) → run (c .next) count x ≡ live b → shownAt c b ≡ bytesMachine behind b
 
 -- the begins and runs are those that the contracts of `pijorrel_old_begin`, `pijorrel_old_run`, `pijorrel_new_begin`, `pijorrel_new_run` cite
 unfoldable pub Interface : Type 0
