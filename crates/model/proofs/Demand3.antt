@@ -323,25 +323,3 @@ demand3 image base entryList placesLength recordsLength placeCount recordCount i
     let L = laid image base entryList placesLength recordsLength placeCount recordCount ib eb handed eh answered places records et er in
     from-begin image base db (numbersIn entryList) (placeRoom placesLength) (L .ps) records places (L .made) (L .closed) (L .few) (L .table-read)
     (L .records-read) k lk x y hx hy
-
--- demand 2: "The places .. of an accepted image are those that 01's rules make, and all of them."
-pub all-of-them : (image : List ℕ) (base : ℕ) (entryList : List ℕ) (placesLength recordsLength placeCount recordCount : ℕ) → Below 256 entryList
-    → translation image base entryList placesLength recordsLength .answer ≡ Accepted placeCount recordCount
-    → (ps : List Place) × ((placesOf image base (placeRoom placesLength) (numbersIn entryList) ≡ table ps)
-    × ((x : Place) → (member ps x ≡ true) ↔ Makes image base (numbersIn entryList) x))
-all-of-them image base entryList placesLength recordsLength placeCount recordCount eb e =
-    let es = numbersIn entryList in
-    let tk : Took image base entryList placesLength recordsLength placeCount recordCount
-    (translation image base entryList placesLength recordsLength) =
-    took image base entryList placesLength recordsLength placeCount recordCount e in
-    let C : Closed image base (tk .ps) =
-    places-closed image base (placeRoom placesLength) es (tk .ps) (entries-aligned base (length image) 0 es (numbers-lt entryList eb) (tk .good)) (tk .made) in (
-      tk .ps,
-      (
-        tk .made,
-        λ x. (
-          member-made image base (placeRoom placesLength) es (tk .ps) (tk .made) x,
-          made-member image base (placeRoom placesLength) es (tk .ps) (tk .made) C x,
-        ),
-      ),
-    )

@@ -7,6 +7,7 @@ pub mod RecordCalls
 pub mod Records
 pub mod NewCore
 pub mod Translation
+pub mod AllOfThem
 pub mod FirstBadEntry
 pub mod Trails
 pub mod Cores
