@@ -25,7 +25,7 @@ use Rattle.model.specs.Translation.{answerNumbers, Handed, translation, 
 use Rattle.model.specs.Trails.{shownOf, Core, shownAt, Unspent}
 use Rattle.model.specs.Cores.{oldMark, oldOver, newMark, newByHeld, newOver, oldBegin, newBegin, stepsFor, trailOf}
 use Rattle.model.specs.Demand3.{Placed, Complete, Strays, Holds, Demand3}
-use Rattle.model.specs.StateBytes.{oldBehind, newBehind, machineIn, oldIn, oldBytes, newIn, newBytes, After, oldAfter, newAfter, oldBegins, oldRuns, newBegins, newRuns}
+use Rattle.model.specs.StateBytes.{oldBehind, newBehind, machineIn, oldIn, oldBytes, newIn, newBytes, After, oldAfter, newAfter, oldBegins, oldRuns, newBegins, newRuns, OldRunsAdd, NewRunsAdd}
 use Rattle.model.specs.Interface.{Bytes, bytes, answered, called, bytesMachine, oldBytesMark, oldCalls, newBytesMark, newBytesByHeld, newCalls, oldStarted, newStarted, startOf, ReadOff, Interface}
 use Rattle.model.proofs.Hop.{Over}
 use Rattle.model.proofs.Bounds.{SoundOld, SoundNew, found-lt}
@@ -37,16 +37,13 @@ use Rattle.model.proofs.Calls.{oldArea, old-coded, old-sound, old-pc, o
 use Rattle.model.proofs.Demand3.{complete, Laid, laid, placed-lt, finds, demand3}
 
 -- ---------------------------------------------------------------- a run of m and then one of n is a run of m + n
-pub old-runs-add : (image : List ℕ) (base db m n : ℕ) (bs l : List ℕ) → Below 256 bs → Below 256 l
-    → oldRuns image base db n (oldRuns image base db m bs l .state) (oldRuns image base db m bs l .area) ≡ oldRuns image base db (m + n) bs l
-unfolding oldRuns
+pub old-runs-add : OldRunsAdd
+unfolding OldRunsAdd oldRuns
 old-runs-add image base db m n bs l b d =
     runs-add (oldNext image base db) oldAfter oldIn oldArea SoundOld (old-coded image base db) m n bs l (old-sound bs l b d)
 
-pub new-runs-add : (records places : List ℕ) (base size db m n : ℕ) (bs l : List ℕ) → Below 256 records → Below 256 places → Below 256 bs → Below 256 l
-    → newRuns records places base size db n (newRuns records places base size db m bs l .state) (newRuns records places base size db m bs l .area)
-    ≡ newRuns records places base size db (m + n) bs l
-unfolding newRuns
+pub new-runs-add : NewRunsAdd
+unfolding NewRunsAdd newRuns
 new-runs-add records places base size db m n bs l br bp b d =
     runs-add (newNext records places base size db) newAfter newIn newArea SoundNew (new-coded records places base size db br bp) m n bs l (new-sound bs l b d)
 

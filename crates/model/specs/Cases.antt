@@ -31,9 +31,20 @@ over words = oldNext (bytesOf words) 0 0
 unfoldable pub start : ℕ → ℕ → ℕ → State Old
 start i v flags = oldBegun 0 (machine (set (replicate fileSize 0) i v) flags [])
 
--- a register and the flags; the end and the number beside it
+-- an end and the number beside it; a register and the flags
+unfoldable pub endOf : Ending → List ℕ
+endOf (ending n v) = n ∷ v ∷ []
+
 unfoldable pub shown : ℕ → State Old → List ℕ
 shown i (state (old m pc npc annul) e) = getD (m .registers) i 0 ∷ m .flags ∷ []
+
+-- after a word with an address in register 1 over an area of 65,537 bytes, of which the last two are 9 and 8: the register, byte 65,535, and the end
+unfoldable pub lastByteOf : State Old → List ℕ
+lastByteOf (state (old m pc npc annul) e) = getD (m .registers) 1 0 ∷ getD (m .area) 65535 0 ∷ endOf e
+
+unfoldable pub lastByte : ℕ → ℕ → List ℕ
+lastByte word a =
+    lastByteOf (run (over (word ∷ [])) 1 (oldBegin (record { address = 0; registers = 0 ∷ a ∷ []; flags = 0; area = replicate 65535 0 ++ (9 ∷ 8 ∷ []) })))
 
 -- Y, then the same
 unfoldable pub product : ℕ → State Old → List ℕ
@@ -42,9 +53,6 @@ product i (state (old m pc npc annul) e) = yOf (m .registers) ∷ getD (m .regis
 -- the nesting, the flags, and some registers
 unfoldable pub windowed : List ℕ → State Old → List ℕ
 windowed is (state (old m pc npc annul) e) = nestingOf (m .registers) ∷ m .flags ∷ map (λ i. getD (m .registers) i 0) is
-
-unfoldable pub endOf : Ending → List ℕ
-endOf (ending n v) = n ∷ v ∷ []
 
 unfoldable pub ended : State Old → List ℕ
 ended (state s e) = endOf e
@@ -59,6 +67,10 @@ newBeginsEnd size a = newEnded (newBegin [] 0 size (record { address = a; regist
 -- how the new core stands after the step at record r, of records of three numbers each
 unfoldable pub stepAt : ℕ → List ℕ → List ℕ
 stepAt r records = newEnded (run (newNext (bytesOf records) [] 0 0 0) 1 (live (new (machine (replicate fileSize 0) 0 []) r 0)))
+
+-- after a kind 7 with a first, at record 1
+unfoldable pub stopsWith : ℕ → List ℕ
+stopsWith e = stepAt 1 (1 ∷ 0x01000000 ∷ 0 ∷ 7 ∷ e ∷ 9 ∷ [])
 
 -- ---------------------------------------------------------------- translations
 -- the answer's numbers, and the bytes of both buffers
@@ -352,7 +364,6 @@ cases =
     ∷ row 0 (stepAt 0 (1 ∷ 0x00800004 ∷ 0 ∷ [])) (0 ∷ 0 ∷ [])
     ∷ row 0 (stepAt 0 (3 ∷ nop ∷ 0 ∷ [])) (7 ∷ 0 ∷ [])
     ∷ row 0 (stepAt 0 (4 ∷ 16 ∷ 0 ∷ [])) (7 ∷ 0 ∷ [])
-    ∷ row 0 (stepAt 0 (7 ∷ 4 ∷ 0 ∷ [])) (7 ∷ 0 ∷ [])
     -- "exactly the given count was done .. and no end met": the trail of a run of one word closes with 0
     ∷ row 0 (told (trail (oldOver (bytesOf p1) 0 0) 1 9 0 (oldBegin (begins 0 7 0)))) (0 ∷ 0 ∷ 7 ∷ 0 ∷ 0 ∷ [])
     -- the listing's image, on both cores
@@ -552,25 +563,17 @@ cases =
     ∷ row 0 (windowed (14 ∷ []) (run (over (0x9DE3BFA0 ∷ [])) 1 (start 33 6 5))) (6 ∷ 5 ∷ 0 ∷ [])
     ∷ row 0 (ended (run (over (0x81E00000 ∷ 0x81E80000 ∷ 0x91EA2001 ∷ [])) 3 (start 1 0 0))) (9 ∷ 0 ∷ [])
     ∷ row 0 (windowed (8 ∷ []) (run (over (0x91EA2001 ∷ [])) 1 (start 8 7 5))) (0 ∷ 5 ∷ 7 ∷ [])
-    -- N2's unused bits; kind 1 does both words, and no kind 7 ends so
+    -- N2's unused bits; kind 1 does both words
     ∷ row 0 (ended (run (over (0x81E00020 ∷ [])) 1 (start 33 6 0))) (3 ∷ 0 ∷ [])
     ∷ row 0 (stepAt 0 (1 ∷ 0x81E00000 ∷ 0 ∷ [])) (0 ∷ 0 ∷ [])
     ∷ row 0 (stepAt 0 (1 ∷ 0x81E80000 ∷ 0 ∷ [])) (9 ∷ 0 ∷ [])
     ∷ row 0 (stepAt 0 (1 ∷ 0x81E80020 ∷ 0 ∷ [])) (7 ∷ 0 ∷ [])
-    ∷ row 0 (stepAt 0 (7 ∷ 8 ∷ 6 ∷ [])) (7 ∷ 0 ∷ [])
-    ∷ row 0 (stepAt 0 (7 ∷ 9 ∷ 0 ∷ [])) (7 ∷ 0 ∷ [])
     -- "Trail entries show the nesting and every window", on both cores: the local and the out that window 0 had, and the local of window 1
     ∷ row 0 (windowsTold (entries (oldCut windows (begins 0 7 0) 9))) (0 ∷ 0 ∷ 0 ∷ 0 ∷ 0 ∷ 7 ∷ 0 ∷ 0 ∷ 0 ∷ 7 ∷ 7 ∷ 0 ∷ 1 ∷ 7 ∷ 7 ∷ 0 ∷ 1 ∷ 7 ∷ 7 ∷ 7 ∷ [])
     ∷ row 0 (windowsTold (entries (newCut 5 9 windows (begins 0 7 0) 9))) (0 ∷ 0 ∷ 0 ∷ 0 ∷ 0 ∷ 7 ∷ 0 ∷ 0 ∷ 0 ∷ 7 ∷ 7 ∷ 0 ∷ 1 ∷ 7 ∷ 7 ∷ 0 ∷ 1 ∷ 7 ∷ 7 ∷ 7 ∷ [])
     -- "demand 3 takes any windows and any nesting from 0 to 6, and a nesting handed in above 6 counts as 6": the whole file that a first entry shows
     ∷ row 0 (fileTold (entries (oldCut windows anyWindows 1))) (0 ∷ upTo (λ i. i + 2) 32 ++ (6 ∷ upTo (λ i. i + 35) 96 ++ upTo (λ i. i + 25) 8 ++ upTo (λ i. i + 17) 8 ++ upTo (λ i. i + 9) 8 ++ upTo (λ i. i + 155) 8))
     ∷ row 0 (fileTold (entries (newCut 5 9 windows anyWindows 1))) (0 ∷ upTo (λ i. i + 2) 32 ++ (6 ∷ upTo (λ i. i + 35) 96 ++ upTo (λ i. i + 25) 8 ++ upTo (λ i. i + 17) 8 ++ upTo (λ i. i + 9) 8 ++ upTo (λ i. i + 155) 8))
-    -- and in a delay slot
-    ∷ row 0 (fileTold (entries (oldCut p1 anyWindows 2))) ((0 ∷ upTo (λ i. i + 2) 32 ++ (6 ∷ upTo (λ i. i + 35) 96 ++ upTo (λ i. i + 25) 8 ++ upTo (λ i. i + 17) 8 ++ upTo (λ i. i + 9) 8 ++ upTo (λ i. i + 155) 8)) ++ (0 ∷ upTo (λ i. i + 2) 32 ++ (6 ∷ upTo (λ i. i + 35) 96 ++ upTo (λ i. i + 25) 8 ++ upTo (λ i. i + 17) 8 ++ upTo (λ i. i + 9) 8 ++ upTo (λ i. i + 155) 8)))
-    ∷ row 0 (fileTold (entries (newCut 3 4 p1 anyWindows 2))) ((0 ∷ upTo (λ i. i + 2) 32 ++ (6 ∷ upTo (λ i. i + 35) 96 ++ upTo (λ i. i + 25) 8 ++ upTo (λ i. i + 17) 8 ++ upTo (λ i. i + 9) 8 ++ upTo (λ i. i + 155) 8)) ++ (0 ∷ upTo (λ i. i + 2) 32 ++ (6 ∷ upTo (λ i. i + 35) 96 ++ upTo (λ i. i + 25) 8 ++ upTo (λ i. i + 17) 8 ++ upTo (λ i. i + 9) 8 ++ upTo (λ i. i + 155) 8)))
-    ∷ row 0 (oldTold (slotted 0) (begins 0 7 0) 9) (0 ∷ 0 ∷ 7 ∷ 1 ∷ 4 ∷ 7 ∷ 3 ∷ 4 ∷ [])
-    ∷ row 0 (newTold 2 2 (slotted 0) (begins 0 7 0) 9) (0 ∷ 0 ∷ 7 ∷ 1 ∷ 4 ∷ 7 ∷ 3 ∷ 4 ∷ [])
-    ∷ row 0 (told (trail (newOver (bytesOf (5 ∷ 0 ∷ 0 ∷ [])) (bytesOf (8 ∷ 0 ∷ 9 ∷ 0 ∷ 4 ∷ 8 ∷ 0 ∷ 0 ∷ [])) 0 16 0) 2 9 0 (live (new (machine (replicate fileSize 0) 0 []) 0 0)))) (0 ∷ 8 ∷ 0 ∷ 1 ∷ 8 ∷ 0 ∷ 0 ∷ 0 ∷ [])
     -- an entry shows all of its state wherever it stands, and each stands: in a plain place, a slot, behind a word that wrote data and one that set
     -- flags; held; and at a landing, whose word is in the image and has no place, or is outside
     ∷ row 0 (wholeTold (oldCut touches (anyState 8) 9))
@@ -603,21 +606,27 @@ cases =
     ∷ row 0 (reached 0 (0 ∷ 2 ∷ 1 ∷ []) ∷ reached 1 (0 ∷ 2 ∷ 1 ∷ []) ∷ reached 2 (0 ∷ 2 ∷ 1 ∷ []) ∷ reached 3 (0 ∷ 2 ∷ 1 ∷ []) ∷ reached 9 (0 ∷ 2 ∷ 1 ∷ []) ∷ [])
     (1 ∷ 1 ∷ 2 ∷ 3 ∷ 3 ∷ [])
     ∷ row 0 (map (λ n. stood (oldOver (bytesOf p4) 0 0) n (oldBegin (begins 0 0 0))) (0 ∷ 1 ∷ 2 ∷ 3 ∷ 4 ∷ 9 ∷ [])) (1 ∷ 1 ∷ 2 ∷ 3 ∷ 3 ∷ 3 ∷ [])
-    -- "a kind 7 whose first is not 2 or 3"
-    ∷ row 0 (stepAt 0 (7 ∷ 2 ∷ 9 ∷ []) ++ stepAt 0 (7 ∷ 3 ∷ 9 ∷ [])) (2 ∷ 9 ∷ 3 ∷ 9 ∷ [])
-    ∷ row 0 (stepAt 0 (7 ∷ 0 ∷ 9 ∷ []) ++ stepAt 0 (7 ∷ 1 ∷ 9 ∷ []) ++ stepAt 0 (7 ∷ 5 ∷ 9 ∷ []) ++ stepAt 0 (7 ∷ 6 ∷ 9 ∷ []) ++ stepAt 0 (7 ∷ 7 ∷ 9 ∷ []))
-    (7 ∷ 0 ∷ 7 ∷ 0 ∷ 7 ∷ 0 ∷ 7 ∷ 0 ∷ 7 ∷ 0 ∷ [])
+    -- "a kind 7 whose first is not 2 or 3, with the record number": firsts 0 to 9, at record 1
+    ∷ row 0 (stopsWith 0 ++ stopsWith 1 ++ stopsWith 2 ++ stopsWith 3 ++ stopsWith 4 ++ stopsWith 5 ++ stopsWith 6 ++ stopsWith 7 ++ stopsWith 8 ++ stopsWith 9)
+    (7 ∷ 1 ∷ 7 ∷ 1 ∷ 2 ∷ 9 ∷ 3 ∷ 9 ∷ 7 ∷ 1 ∷ 7 ∷ 1 ∷ 7 ∷ 1 ∷ 7 ∷ 1 ∷ 7 ∷ 1 ∷ 7 ∷ 1 ∷ [])
     -- "Kind 6 seeks the lowest-numbered plain place of the held address", a begin likewise
     ∷ row 0 (newEnded (run (newNext (bytesOf goesOrEnds) (bytesOf twice) 0 16 0) 2 (live (new (machine (replicate fileSize 0) 0 []) 0 8)))) (2 ∷ 5 ∷ [])
     ∷ row 0 (told (trailOf (newOver (bytesOf goesOrEnds) (bytesOf twice) 0 16 0) 9 (newBegin (bytesOf twice) 0 16 (begins 8 7 0)))) (0 ∷ 8 ∷ 7 ∷ 2 ∷ 5 ∷ [])
-    -- "(address − base) modulo 2^32, plus 4, is at most its length": the last word of an image, and one past it; no word at all
-    ∷ row 0 (oldTold (nop ∷ 0x91D02000 ∷ []) (begins 4 7 0) 9 ++ oldTold (nop ∷ 0x91D02000 ∷ []) (begins 8 7 0) 9) (0 ∷ 4 ∷ 7 ∷ 1 ∷ 0 ∷ 0 ∷ 8 ∷ 7 ∷ 2 ∷ 8 ∷ [])
-    ∷ row 0 (newTold 2 3 (nop ∷ 0x91D02000 ∷ []) (begins 4 7 0) 9 ++ newTold 2 3 (nop ∷ 0x91D02000 ∷ []) (begins 8 7 0) 9) (0 ∷ 4 ∷ 7 ∷ 1 ∷ 0 ∷ 0 ∷ 8 ∷ 7 ∷ 2 ∷ 8 ∷ [])
+    -- "in a malformed table that of the lowest-numbered place naming that record", of whatever kind it is
+    ∷ row 0 (told (trail (newOver (bytesOf (5 ∷ 0 ∷ 0 ∷ [])) (bytesOf (8 ∷ 0 ∷ 9 ∷ 0 ∷ 4 ∷ 8 ∷ 0 ∷ 0 ∷ [])) 0 16 0) 2 9 0 (live (new (machine (replicate fileSize 0) 0 []) 0 0)))) (0 ∷ 8 ∷ 0 ∷ 1 ∷ 8 ∷ 0 ∷ 0 ∷ 0 ∷ [])
+    -- "(address − base) modulo 2^32, plus 4, is at most its length": the one word of an image, and one past it; no whole word
+    ∷ row 0 (oldTold (0x91D02000 ∷ []) (begins 0 7 0) 9 ++ oldTold (0x91D02000 ∷ []) (begins 4 7 0) 9) (0 ∷ 0 ∷ 7 ∷ 1 ∷ 0 ∷ 0 ∷ 4 ∷ 7 ∷ 2 ∷ 4 ∷ [])
+    ∷ row 0 (newTold 1 1 (0x91D02000 ∷ []) (begins 0 7 0) 9 ++ newTold 1 1 (0x91D02000 ∷ []) (begins 4 7 0) 9) (0 ∷ 0 ∷ 7 ∷ 1 ∷ 0 ∷ 0 ∷ 4 ∷ 7 ∷ 2 ∷ 4 ∷ [])
+    ∷ row 0 (listed 1 1 (0x91D02000 ∷ []) ++ answerNumbers (given (0x91D02000 ∷ []) (4 ∷ []) 16 12 .answer)) (0 ∷ 1 ∷ 1 ∷ 0 ∷ 4 ∷ 0 ∷ 0 ∷ 1 ∷ 0x91D02000 ∷ 0 ∷ 3 ∷ 1 ∷ 0 ∷ [])
     ∷ row 0 (told (trailOf (oldOver (replicate 7 0) 0 0) 9 (oldBegin (begins 4 7 0))) ++ told (trailOf (oldOver (replicate 3 0) 0 0) 9 (oldBegin (begins 0 7 0)))
     ++ oldTold [] (begins 0 7 0) 9)
     (0 ∷ 4 ∷ 7 ∷ 2 ∷ 4 ∷ 0 ∷ 0 ∷ 7 ∷ 2 ∷ 0 ∷ 0 ∷ 0 ∷ 7 ∷ 2 ∷ 0 ∷ [])
     ∷ row 0 (newBeginsEnd 8 4 ++ newBeginsEnd 7 4 ++ newBeginsEnd 4 0 ++ newBeginsEnd 3 0 ++ newBeginsEnd 0 0) (6 ∷ 4 ∷ 2 ∷ 4 ∷ 6 ∷ 0 ∷ 2 ∷ 0 ∷ 2 ∷ 0 ∷ [])
     ∷ row 0 (answerNumbers (given p1 (12 ∷ []) 16 12 .answer) ++ answerNumbers (given p1 (16 ∷ []) 16 12 .answer)) (0 ∷ 1 ∷ 1 ∷ 3 ∷ 1 ∷ 0 ∷ [])
+    -- "Data is one lent area of 0 to 65,536 bytes": its last byte is read and written, the next does not fit, though the area is longer
+    ∷ row 0 (lastByte 0xC2086000 65535) (9 ∷ 9 ∷ 0 ∷ 0 ∷ [])
+    ∷ row 0 (lastByte 0xC2286000 65535) (65535 ∷ 255 ∷ 0 ∷ 0 ∷ [])
+    ∷ row 0 (lastByte 0xC2086000 65536) (65536 ∷ 9 ∷ 5 ∷ 65536 ∷ [])
     -- "Bicc 0 without annul ..: plain n": one 5, in a plain place and in a slot; held: 1, 6
     ∷ row 0 (listed 3 4 (0x00800004 ∷ nop ∷ 0 ∷ []))
     (0 ∷ 3 ∷ 4 ∷ 0 ∷ 4 ∷ 0 ∷ 0 ∷ 4 ∷ 8 ∷ 0 ∷ 1 ∷ 8 ∷ 12 ∷ 0 ∷ 3 ∷ 5 ∷ 1 ∷ 0 ∷ 1 ∷ 0x01000000 ∷ 0 ∷ 5 ∷ 3 ∷ 0 ∷ 7 ∷ 3 ∷ 8 ∷ [])

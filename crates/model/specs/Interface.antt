@@ -1,7 +1,7 @@
 -- Demand 3 as a loader sees it: trails read off the bytes that the exported functions leave, each call being a run of count 1 on the
--- state and data bytes that the last one left. A call that ends leaves bytes too, which no further entry shows: `old-runs-add` and
--- `new-runs-add` (proofs/Interface) cover them, since by them the call's bytes are those of one run of as many steps from the first bytes,
--- and of such a run the contracts say every byte.
+-- state and data bytes that the last one left. A call that ends leaves bytes too, which no further entry shows: `OldRunsAdd` and
+-- `NewRunsAdd` (StateBytes) cover them, since by them the call's bytes are those of one run of as many steps from the first bytes, and of
+-- such a run the contracts say every byte.
 use Prim.Native.Nat.{ℕ, zero, suc, _*_, _%_, _≤_}
 use mathlib.Core.Path.{_≡_}
 use mathlib.Core.List.{List, [], _∷_}
