@@ -38,6 +38,32 @@ endOf (ending n v) = n ∷ v ∷ []
 unfoldable pub shown : ℕ → State Old → List ℕ
 shown i (state (old m pc npc annul) e) = getD (m .registers) i 0 ∷ m .flags ∷ []
 
+-- what is told of each number, one behind the other
+unfoldable pub each : (ℕ → List ℕ) → List ℕ → List ℕ
+each f [] = []
+each f (i ∷ is) = f i ++ each f is
+
+-- the word of format 2 with an op3, registers 1 and 2, and rd 3; of format 3 with an op3, register 1, the constant 0, and rd 2
+abbrev pub ofThree : ℕ → ℕ
+ofThree op3 = 0x86004002 + op3 * 0x80000
+
+abbrev pub ofMemory : ℕ → ℕ
+ofMemory op3 = 0xC4006000 + op3 * 0x80000
+
+-- register 3 and the flags after a word, with two registers and the flags set
+unfoldable pub worked : ℕ → ℕ → ℕ → ℕ → List ℕ
+worked flags a b word =
+    shown 3 (run (over (word ∷ [])) 1 (oldBegin (record { address = 0; registers = 0 ∷ a ∷ b ∷ []; flags = flags; area = [] })))
+
+-- register 2, the data and the end after a word, with an address in register 1 and a number in register 2, over seven bytes at data base 4,096
+unfoldable pub touched : State Old → List ℕ
+touched (state (old m pc npc annul) e) = getD (m .registers) 2 0 ∷ m .area ++ endOf e
+
+unfoldable pub moved : ℕ → ℕ → List ℕ
+moved a word =
+    let bytes : List ℕ = 0x81 ∷ 0x92 ∷ 0xA3 ∷ 0xB4 ∷ 5 ∷ 6 ∷ 7 ∷ [] in
+    touched (run (oldNext (bytesOf (word ∷ [])) 0 4096) 1 (oldBegin (record { address = 0; registers = 0 ∷ a ∷ 0x1C2D3E4F ∷ []; flags = 0; area = bytes })))
+
 -- after a word with an address in register 1 over an area of 65,537 bytes, of which the last two are 9 and 8: the register, byte 65,535, and the end
 unfoldable pub lastByteOf : State Old → List ℕ
 lastByteOf (state (old m pc npc annul) e) = getD (m .registers) 1 0 ∷ getD (m .area) 65535 0 ∷ endOf e
@@ -319,6 +345,37 @@ cases =
     ∷ row 11 (answerNumbers (translation (replicate 16388 0) 0 (bytesOf (0 ∷ [])) 16 12 .answer)) (1 ∷ 16388 ∷ 0 ∷ [])
     ∷ row 11 (answerNumbers (given (0 ∷ []) (replicate 64 0) 16 12 .answer)) (0 ∷ 1 ∷ 1 ∷ [])
     ∷ row 11 (answerNumbers (given (0 ∷ []) (replicate 65 0) 16 12 .answer)) (3 ∷ 0 ∷ 0 ∷ [])
+    -- "add, addx, sub, subx, and, andn, or, orn, xor, xnor, each plain and setting flags; sll, srl, sra", by V8's op3, with C set: add, and, or, xor,
+    -- sub, andn, orn, xnor, addx, subx; shifts by 7; the flag forms where sums and differences are 0 or one off
+    ∷ row 0 (each (λ o. worked 1 0xC0000F0F 0x4F00FF07 (ofThree o)) (0 ∷ 1 ∷ 2 ∷ 3 ∷ 4 ∷ 5 ∷ 6 ∷ 7 ∷ 8 ∷ 12 ∷ []))
+    (0x0F010E16 ∷ 1 ∷ 0x40000F07 ∷ 1 ∷ 0xCF00FF0F ∷ 1 ∷ 0x8F00F008 ∷ 1 ∷ 0x70FF1008 ∷ 1 ∷ 0x80000008 ∷ 1 ∷ 0xF0FF0FFF ∷ 1 ∷ 0x70FF0FF7 ∷ 1 ∷ 0x0F010E17 ∷ 1 ∷ 0x70FF1007 ∷ 1
+    ∷ [])
+    ∷ row 0 (each (λ o. worked 1 0xC0000F0F 0x4F00FF07 (ofThree o)) (16 ∷ 17 ∷ 18 ∷ 19 ∷ 20 ∷ 21 ∷ 22 ∷ 23 ∷ 24 ∷ 28 ∷ []))
+    (0x0F010E16 ∷ 1 ∷ 0x40000F07 ∷ 0 ∷ 0xCF00FF0F ∷ 8 ∷ 0x8F00F008 ∷ 8 ∷ 0x70FF1008 ∷ 2 ∷ 0x80000008 ∷ 8 ∷ 0xF0FF0FFF ∷ 8 ∷ 0x70FF0FF7 ∷ 0 ∷ 0x0F010E17 ∷ 1 ∷ 0x70FF1007 ∷ 2
+    ∷ [])
+    ∷ row 0 (each (λ o. worked 1 0x80000000 0x80000000 (ofThree o)) (16 ∷ 20 ∷ 24 ∷ 28 ∷ [])) (0 ∷ 7 ∷ 0 ∷ 4 ∷ 1 ∷ 3 ∷ 0xFFFFFFFF ∷ 9 ∷ [])
+    ∷ row 0 (each (λ o. worked 1 0xC0000F0F 0x4F00FF07 (ofThree o)) (0x25 ∷ 0x26 ∷ 0x27 ∷ [])) (0x78780 ∷ 1 ∷ 0x0180001E ∷ 1 ∷ 0xFF80001E ∷ 1 ∷ [])
+    ∷ row 0 (each (λ o. worked 1 0x7FFFFFFF 63 (ofThree o)) (0x25 ∷ 0x26 ∷ 0x27 ∷ [])) (0x80000000 ∷ 1 ∷ 0 ∷ 1 ∷ 0 ∷ 1 ∷ [])
+    -- "sethi"; "1 Ticc taken, with (rs1 + operand) modulo 128", and one that is not
+    ∷ row 0 (worked 1 0 0 0x073FFFFF) (0xFFFFFC00 ∷ 1 ∷ [])
+    ∷ row 0 (ended (run (over (0x91D06005 ∷ [])) 1 (start 1 1000 0)) ++ ended (run (over (0x83D06005 ∷ [])) 1 (start 1 1000 0))) (1 ∷ 109 ∷ 0 ∷ 0 ∷ [])
+    -- "ld, ldub, ldsb, lduh, ldsh, st, stb, sth", big-endian: the first bytes read and written, by V8's op3
+    ∷ row 0 (each (λ o. moved 4096 (ofMemory o)) (0 ∷ 1 ∷ 9 ∷ 2 ∷ 10 ∷ []))
+    (0x8192A3B4 ∷ 0x81 ∷ 0x92 ∷ 0xA3 ∷ 0xB4 ∷ 5 ∷ 6 ∷ 7 ∷ 0 ∷ 0 ∷ 0x81 ∷ 0x81 ∷ 0x92 ∷ 0xA3 ∷ 0xB4 ∷ 5 ∷ 6 ∷ 7 ∷ 0 ∷ 0
+    ∷ 0xFFFFFF81 ∷ 0x81 ∷ 0x92 ∷ 0xA3 ∷ 0xB4 ∷ 5 ∷ 6 ∷ 7 ∷ 0 ∷ 0 ∷ 0x8192 ∷ 0x81 ∷ 0x92 ∷ 0xA3 ∷ 0xB4 ∷ 5 ∷ 6 ∷ 7 ∷ 0 ∷ 0
+    ∷ 0xFFFF8192 ∷ 0x81 ∷ 0x92 ∷ 0xA3 ∷ 0xB4 ∷ 5 ∷ 6 ∷ 7 ∷ 0 ∷ 0 ∷ [])
+    ∷ row 0 (each (λ o. moved 4096 (ofMemory o)) (4 ∷ 5 ∷ 6 ∷ []))
+    (0x1C2D3E4F ∷ 0x1C ∷ 0x2D ∷ 0x3E ∷ 0x4F ∷ 5 ∷ 6 ∷ 7 ∷ 0 ∷ 0 ∷ 0x1C2D3E4F ∷ 0x4F ∷ 0x92 ∷ 0xA3 ∷ 0xB4 ∷ 5 ∷ 6 ∷ 7 ∷ 0 ∷ 0
+    ∷ 0x1C2D3E4F ∷ 0x3E ∷ 0x4F ∷ 0xA3 ∷ 0xB4 ∷ 5 ∷ 6 ∷ 7 ∷ 0 ∷ 0 ∷ [])
+    -- "fits if (address − data base) modulo 2^32, plus w, is at most the area's length": the last byte and half word of seven bytes, and the first that
+    -- do not fit, at 4,100 and 4,103 and below the data base; misaligned by 1 and by 2
+    ∷ row 0 (moved 4102 (ofMemory 5) ++ moved 4100 (ofMemory 6))
+    (0x1C2D3E4F ∷ 0x81 ∷ 0x92 ∷ 0xA3 ∷ 0xB4 ∷ 5 ∷ 6 ∷ 0x4F ∷ 0 ∷ 0 ∷ 0x1C2D3E4F ∷ 0x81 ∷ 0x92 ∷ 0xA3 ∷ 0xB4 ∷ 0x3E ∷ 0x4F ∷ 7 ∷ 0 ∷ 0 ∷ [])
+    ∷ row 0 (moved 4100 (ofMemory 4) ++ moved 4103 (ofMemory 5) ++ moved 4095 (ofMemory 1))
+    (0x1C2D3E4F ∷ 0x81 ∷ 0x92 ∷ 0xA3 ∷ 0xB4 ∷ 5 ∷ 6 ∷ 7 ∷ 5 ∷ 4100 ∷ 0x1C2D3E4F ∷ 0x81 ∷ 0x92 ∷ 0xA3 ∷ 0xB4 ∷ 5 ∷ 6 ∷ 7 ∷ 5 ∷ 4103
+    ∷ 0x1C2D3E4F ∷ 0x81 ∷ 0x92 ∷ 0xA3 ∷ 0xB4 ∷ 5 ∷ 6 ∷ 7 ∷ 5 ∷ 4095 ∷ [])
+    ∷ row 0 (moved 4097 (ofMemory 2) ++ moved 4098 (ofMemory 0))
+    (0x1C2D3E4F ∷ 0x81 ∷ 0x92 ∷ 0xA3 ∷ 0xB4 ∷ 5 ∷ 6 ∷ 7 ∷ 4 ∷ 4097 ∷ 0x1C2D3E4F ∷ 0x81 ∷ 0x92 ∷ 0xA3 ∷ 0xB4 ∷ 5 ∷ 6 ∷ 7 ∷ 4 ∷ 4098 ∷ [])
     -- further readings that tempt and are wrong: linking p + 8; jmpl's address taken after rd is written; alignment tested after fit
     ∷ row 0 (shown 15 (run (over callsOn) 2 (start 1 0 0))) (4 ∷ 0 ∷ [])
     ∷ row 0 (oldTold jumpsOn (begins 0 16 0) 3) (0 ∷ 0 ∷ 16 ∷ 1 ∷ 4 ∷ 0 ∷ 1 ∷ 16 ∷ 0 ∷ 0 ∷ 0 ∷ [])
