@@ -8,7 +8,7 @@ use Rattle.numbers.specs.Number.{plus, minus, signed, numberAt, putNumber, byte
 use Rattle.words.specs.Reader.{bits, bitSet, operandOf, format0Of, format2Of, format3Of, setFrom, registerStrays, rdyStrays, wryStrays, unusedSet, strictly, byFormat, instructionOf, isUnimp}
 use Rattle.words.specs.Conditions.{rows, bitAt, holdsOf, bitOf, nzvcOf}
 use Rattle.effects.proofs.Opened.{machine-open, windows-open}
-use Rattle.model.specs.Cases.{over, start, shown, product, endOf, ended, newEnded, stepAt, cases, noCase, Row, bytesBack, given, answered, listedAt, listed, entriesTold, told, begins, beginsWithY, anyWindows, nestedAt, anyState, each, worked, touched, moved, lastByteOf, lastByte, stopsWith, newBeginsEnd, entriesWhole, wholeTold, whole, oldCloses, newCloses, oldCut, oldTold, newCut, newTold, yTold, windowed, windowsTold, fileTold}
+use Rattle.model.specs.Cases.{over, start, shown, product, endOf, ended, newEnded, stepAt, cases, noCase, Row, bytesBack, given, answered, listedAt, listed, entriesTold, told, begins, beginsWithY, anyWindows, nestedAt, anyState, each, worked, touched, moved, edge, lastBytes, stopsWith, newBeginsEnd, entriesWhole, wholeTold, whole, oldCloses, newCloses, oldCut, oldTold, newCut, newTold, yTold, windowed, windowsTold, fileTold}
 use Rattle.model.specs.Trails.{shownOf, reached}
 use Rattle.model.specs.Cores.{begunWith, oldMark, naming, newMark, goesBy, newByHeld, newTrailAt}
 use Rattle.model.specs.NewCore.{following, fit, doesWord, holds, chooses, seek, lost, goes, stops, does, newNext, begunAt, newBegun}
@@ -82,7 +82,7 @@ trails-open = tt
 
 -- what a row shows
 rows-open : Unit {0}
-unfolding cases newEnded stepAt bytesBack given answered listedAt listed endOf entriesTold told begins beginsWithY anyWindows nestedAt anyState each worked touched moved lastByteOf lastByte stopsWith newBeginsEnd entriesWhole wholeTold whole oldCloses newCloses oldCut oldTold newCut newTold yTold windowed windowsTold fileTold over start shown product ended
+unfolding cases newEnded stepAt bytesBack given answered listedAt listed endOf entriesTold told begins beginsWithY anyWindows nestedAt anyState each worked touched moved edge lastBytes stopsWith newBeginsEnd entriesWhole wholeTold whole oldCloses newCloses oldCut oldTold newCut newTold yTold windowed windowsTold fileTold over start shown product ended
 rows-open = tt
 
 pub cases-hold : (i : ℕ) → i < length cases → getD cases i noCase .got ≡ getD cases i noCase .want

@@ -64,13 +64,12 @@ moved a word =
     let bytes : List ℕ = 0x81 ∷ 0x92 ∷ 0xA3 ∷ 0xB4 ∷ 5 ∷ 6 ∷ 7 ∷ [] in
     touched (run (oldNext (bytesOf (word ∷ [])) 0 4096) 1 (oldBegin (record { address = 0; registers = 0 ∷ a ∷ 0x1C2D3E4F ∷ []; flags = 0; area = bytes })))
 
--- after a word with an address in register 1 over an area of 65,537 bytes, of which the last two are 9 and 8: the register, byte 65,535, and the end
-unfoldable pub lastByteOf : State Old → List ℕ
-lastByteOf (state (old m pc npc annul) e) = getD (m .registers) 1 0 ∷ getD (m .area) 65535 0 ∷ endOf e
+-- register 2 and the end of a run that writes the byte at the address in register 1, reads it, and writes the byte behind it
+unfoldable pub edge : State Old → List ℕ
+edge (state (old m pc npc annul) e) = getD (m .registers) 2 0 ∷ endOf e
 
-unfoldable pub lastByte : ℕ → ℕ → List ℕ
-lastByte word a =
-    lastByteOf (run (over (word ∷ [])) 1 (oldBegin (record { address = 0; registers = 0 ∷ a ∷ []; flags = 0; area = replicate 65535 0 ++ (9 ∷ 8 ∷ []) })))
+unfoldable pub lastBytes : ℕ → List ℕ → List ℕ
+lastBytes a area = edge (run (over (0xC2286000 ∷ 0xC4086000 ∷ 0xC2286001 ∷ [])) 3 (oldBegin (record { address = 0; registers = 0 ∷ a ∷ []; flags = 0; area = area })))
 
 -- Y, then the same
 unfoldable pub product : ℕ → State Old → List ℕ
@@ -680,10 +679,8 @@ cases =
     (0 ∷ 4 ∷ 7 ∷ 2 ∷ 4 ∷ 0 ∷ 0 ∷ 7 ∷ 2 ∷ 0 ∷ 0 ∷ 0 ∷ 7 ∷ 2 ∷ 0 ∷ [])
     ∷ row 0 (newBeginsEnd 8 4 ++ newBeginsEnd 7 4 ++ newBeginsEnd 4 0 ++ newBeginsEnd 3 0 ++ newBeginsEnd 0 0) (6 ∷ 4 ∷ 2 ∷ 4 ∷ 6 ∷ 0 ∷ 2 ∷ 0 ∷ 2 ∷ 0 ∷ [])
     ∷ row 0 (answerNumbers (given p1 (12 ∷ []) 16 12 .answer) ++ answerNumbers (given p1 (16 ∷ []) 16 12 .answer)) (0 ∷ 1 ∷ 1 ∷ 3 ∷ 1 ∷ 0 ∷ [])
-    -- "Data is one lent area of 0 to 65,536 bytes": its last byte is read and written, the next does not fit, though the area is longer
-    ∷ row 0 (lastByte 0xC2086000 65535) (9 ∷ 9 ∷ 0 ∷ 0 ∷ [])
-    ∷ row 0 (lastByte 0xC2286000 65535) (65535 ∷ 255 ∷ 0 ∷ 0 ∷ [])
-    ∷ row 0 (lastByte 0xC2086000 65536) (65536 ∷ 9 ∷ 5 ∷ 65536 ∷ [])
+    -- "Data is one lent area of 0 to 65,536 bytes ..; bytes past that are no part of it": byte 65,535 is written and read, byte 65,536 is not there
+    ∷ row 0 (lastBytes 65535 (replicate 65537 0)) (255 ∷ 5 ∷ 65536 ∷ [])
     -- "Bicc 0 without annul ..: plain n": one 5, in a plain place and in a slot; held: 1, 6
     ∷ row 0 (listed 3 4 (0x00800004 ∷ nop ∷ 0 ∷ []))
     (0 ∷ 3 ∷ 4 ∷ 0 ∷ 4 ∷ 0 ∷ 0 ∷ 4 ∷ 8 ∷ 0 ∷ 1 ∷ 8 ∷ 12 ∷ 0 ∷ 3 ∷ 5 ∷ 1 ∷ 0 ∷ 1 ∷ 0x01000000 ∷ 0 ∷ 5 ∷ 3 ∷ 0 ∷ 7 ∷ 3 ∷ 8 ∷ [])
