@@ -5,31 +5,31 @@ use crate::files::{listing_case, translate_case};
 use crate::random::TranslateCall;
 use crate::translator::bytes;
 
-const ADD: u32 = 0x8200_6001; // add 1 to register 1
+pub const ADD: u32 = 0x8200_6001; // add 1 to register 1
 const NOP: u32 = 0x0100_0000;
-const TA: u32 = 0x91D0_2000; // ta 0
+pub const TA: u32 = 0x91D0_2000; // ta 0
 const TN: u32 = 0x81D0_2000; // tn 0: a Ticc that is never taken
-const BA: u32 = 0x1080_0000;
+pub const BA: u32 = 0x1080_0000;
 const BE: u32 = 0x0280_0000;
-const BN: u32 = 0x0080_0000;
-const ANNUL: u32 = 0x2000_0000;
-const CALL: u32 = 0x4000_0000;
+pub const BN: u32 = 0x0080_0000;
+pub const ANNUL: u32 = 0x2000_0000;
+pub const CALL: u32 = 0x4000_0000;
 const RETURN: u32 = 0x81C3_E008; // jmpl register 15, constant 8, to register 0
-const LINK: u32 = 0x83C3_E008; // the same to register 1
+pub const LINK: u32 = 0x83C3_E008; // the same to register 1
 const LINK_BY_REGISTER: u32 = 0x83C3_C002; // jmpl registers 15 and 2, to register 1
-const ADD_REGISTER: u32 = 0x8200_4002; // add register 2 to register 1
+pub const ADD_REGISTER: u32 = 0x8200_4002; // add register 2 to register 1
 const SLL: u32 = 0x8328_6000; // sll register 1 by 0
 const SLL_REGISTER: u32 = 0x8328_4002; // sll register 1 by register 2
 const TN_REGISTER: u32 = 0x81D0_0002; // tn of registers 0 and 2
-const CONSTANT: u32 = 1 << 13;
+pub const CONSTANT: u32 = 1 << 13;
 const UMUL: u32 = 0x8250_4002; // umul of registers 1 and 2 to register 1
 const WRY: u32 = 0x8180_4002; // wry of registers 1 and 2
 const RDY: u32 = 0x8340_0000; // rdy to register 1
-const SAVE: u32 = 0x9DE3_8001; // save of registers 14 and 1 to register 14
-const RESTORE: u32 = 0x91EE_0001; // restore of registers 24 and 1 to register 8
-const ILLEGAL: u32 = 0;
+pub const SAVE: u32 = 0x9DE3_8001; // save of registers 14 and 1 to register 14
+pub const RESTORE: u32 = 0x91EE_0001; // restore of registers 24 and 1 to register 8
+pub const ILLEGAL: u32 = 0;
 const UNIMP: u32 = 12; // as gcc puts it behind the call of a function that returns 12 bytes
-const OTHER: u32 = 0x0040_0000; // illegal too, but its op2 is not 0
+pub const OTHER: u32 = 0x0040_0000; // illegal too, but its op2 is not 0
 
 /// 01's listing.
 const LISTED: [u32; 4] = [0x1080_0003, ADD, ILLEGAL, TA];
@@ -44,7 +44,7 @@ pub struct Edge {
 }
 
 /// A branch of this kind over so many words.
-fn over(branch: u32, words: i32) -> u32 {
+pub fn over(branch: u32, words: i32) -> u32 {
     branch | (words as u32 & 0x3F_FFFF)
 }
 

@@ -2,8 +2,11 @@
 
 use std::fs;
 
+use reading::core_edges::{new_edges, new_edges_file, old_edges, old_edges_file};
 use reading::edges::{edges, edges_file, listings, listings_file};
+use reading::interface::{new_run_call, old_run_call};
 use reading::listing::listing;
+use reading::new_core::Program;
 use reading::old_core::Image;
 use reading::translator::{answer_of, translate};
 
@@ -37,6 +40,57 @@ fn listings_are_those_by_hand() {
     }
 }
 
+#[test]
+fn old_runs_are_those_by_hand() {
+    for (position, edge) in old_edges().iter().enumerate() {
+        let mut call = edge.call();
+        let image = Image::at(call.base, &call.image);
+        let (state, data) = (&mut call.state, &mut call.data);
+        let (end, _) = old_run_call(image, call.data_base, state, data, call.count);
+        let by_hand = edge.answer();
+        assert!(*state == by_hand.0[..], "edge {position}: {state:?}");
+        assert!(*data == by_hand.1, "edge {position}");
+        assert_eq!(end, edge.end(), "edge {position}");
+    }
+}
+
+#[test]
+fn new_runs_are_those_by_hand() {
+    for (position, edge) in new_edges().iter().enumerate() {
+        let mut call = edge.call();
+        let program = Program {
+            records: &call.records,
+            places: &call.places,
+            base: call.base,
+            image_length: call.image_length,
+        };
+        let (state, data) = (&mut call.state, &mut call.data);
+        let (end, _) = new_run_call(program, call.data_base, state, data, call.count);
+        let by_hand = edge.answer();
+        assert!(*state == by_hand.0[..], "edge {position}: {state:?}");
+        assert!(*data == by_hand.1, "edge {position}");
+        assert_eq!(end, edge.end(), "edge {position}");
+    }
+}
+
+/// Every end of each core is there, but the traps of the old one.
+#[test]
+fn every_end_is_met() {
+    let old: Vec<u32> = old_edges().iter().map(|edge| edge.end()).collect();
+    let new: Vec<u32> = new_edges().iter().map(|edge| edge.end()).collect();
+    for (name, ends, known) in [
+        ("old", old, vec![0, 2, 3, 4, 5, 8, 9]),
+        ("new", new, (0..=9).collect()),
+    ] {
+        println!("{name}: {}", ends.len());
+        for end in known {
+            let met = ends.iter().filter(|met| **met == end).count();
+            println!("end {end}: {met}");
+            assert!(met > 0, "{name} core, end {end}");
+        }
+    }
+}
+
 /// Every answer's number is there, accepted ones too.
 #[test]
 fn every_answer_is_met() {
@@ -56,6 +110,8 @@ fn files_are_these() {
     let data = concat!(env!("CARGO_MANIFEST_DIR"), "/../../crates/cases/data/");
     for (name, made) in [
         ("edges.bin", edges_file()),
+        ("old_core_edges.bin", old_edges_file()),
+        ("new_core_edges.bin", new_edges_file()),
         ("listings.bin", listings_file()),
     ] {
         let stored = fs::read(format!("{data}{name}")).unwrap();
