@@ -168,6 +168,25 @@ fn entries_around(base: u32) -> Vec<Edge> {
     accepted.into_iter().chain(refused).collect()
 }
 
+/// An image of one word: that word as entry and what lies around it; the place past it has a kind 7.
+fn one_word() -> Vec<Edge> {
+    let (base, past) = (0x1000, 0x1004);
+    let ta = |entries: &[u32], answer| edge(&[TA], base, entries, answer);
+    let add = |places, records, answer| edge(&[ADD], base, &[base], answer).lent(places, records);
+    let beside = [base - 4, base + 1, base + 2, base + 3, past];
+    let mut edges: Vec<Edge> = beside.map(|entry| ta(&[entry], (3, 1, 0))).into();
+    edges.extend([
+        ta(&[base], (0, 1, 1)),
+        ta(&[base, past], (3, 2, 0)),
+        ta(&[past, base], (3, 1, 0)),
+        // 1 and 5, then one 7
+        add(2 * PLACE, 3 * RECORD, (0, 2, 3)),
+        add(2 * PLACE - 1, 3 * RECORD, (5, past as u64, 0)),
+        add(2 * PLACE, 3 * RECORD - 1, (6, 3, 0)),
+    ]);
+    edges
+}
+
 /// Refusal 3, the position: lists with exactly one bad entry.
 fn one_bad_entry() -> Vec<Edge> {
     let words = [TA; 4];
@@ -271,6 +290,27 @@ fn held_branches() -> Vec<Edge> {
             )
         })
         .collect()
+}
+
+/// Bicc 0 in a place that is not held has one 5, to plain n or, with annul, to plain n + 4, and no place for its target.
+fn never_taken() -> Vec<Edge> {
+    let of = |words: &[u32], answer| edge(words, 0, &[0], answer);
+    let mut edges = vec![];
+    for branch in [BN, over(BN, 5)] {
+        let annulling = branch | ANNUL;
+        edges.extend([
+            // plain 0, plain 4; with annul plain 0, plain 8
+            of(&[branch, TA], (0, 2, 2)),
+            of(&[annulling, ILLEGAL, TA], (0, 2, 2)),
+            // plain 0, (4, 12), plain 12; with annul plain 16
+            of(&[over(BA, 3), branch, ADD, TA], (0, 3, 3)),
+            of(&[over(BA, 3), annulling, ADD, ADD, TA], (0, 3, 3)),
+            // plain 4, plain 0, plain 8, held 4: 5, then 3 and 5, 1, then 1 and 6
+            edge(&[RETURN, branch, TA], 0, &[4, 0], (0, 4, 6)),
+            edge(&[RETURN, annulling, TA], 0, &[4, 0], (4, 4, 0)),
+        ]);
+    }
+    edges
 }
 
 fn held_words() -> Vec<Edge> {
@@ -799,11 +839,13 @@ pub fn edges() -> Vec<Edge> {
         entries_around(0x1000),
         entries_around(0xFFFF_FFF8),
         entries_around(0xFFFF_FFF0),
+        one_word(),
         one_bad_entry(),
         several_bad_entries(),
         bad_counts_of_bad_entries(),
         held_branches(),
         held_words(),
+        never_taken(),
         first_events(),
         first_named(),
         first_named_elsewhere(),
