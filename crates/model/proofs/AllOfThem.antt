@@ -5,7 +5,7 @@ use native.Mathlib.Nat.{zero-add}
 use mathlib.Core.Path.{_≡_, refl, sym, ap, _∙_, subst}
 use mathlib.Core.Bool.{Bool, true, false, false≢true}
 use mathlib.Core.List.{List, [], _∷_}
-use mathlib.Core.Option.{Option, none, some}
+use mathlib.Core.Option.{Option, none, some, Option·none-ne-some, Option·some-injective}
 use lib.Dec.{eqb}
 use lib.ListN.{getElem?, length, take}
 use Rattle.numbers.specs.Choice.{pick}
@@ -14,26 +14,17 @@ use Rattle.words.specs.Reader.{instructionOf}
 use Rattle.model.specs.declared.Place.{Place}
 use Rattle.model.specs.declared.Place.the-variants.{Pair, Held}
 use Rattle.model.specs.OldCore.{wordIn, Transfer, illegal, straight, trap, call, bicc, jmpl, transferOf, target}
-use Rattle.model.specs.Places.{plain, placeAt, nextOf, kindOf, samePlace, member, Which, never, always, depends, whichOf, biccNames, names, namesAt, unimpBehind, followers, Makes}
+use Rattle.model.specs.Places.{placeAt, nextOf, kindOf, samePlace, member, Which, never, always, depends, whichOf, biccNames, names, namesAt, unimpBehind, followers, Makes}
 use Rattle.model.specs.Walk.{table}
-use Rattle.model.specs.Records.{Rec, doWord, link, hold, goIf, goTo, goHeld, stop, unknown, Group, one, two, biccGroup, groupOf, heldGroupOf, groupAt, heldGroupAt, group, past, numbered, put, Row, row, Grouping, inFull, first, rowsFrom, recordsFrom, rowsOf, recordsOf, rowsIn, recordsIn, numbersIn}
-use Rattle.model.specs.Translation.{Handed, translation, placeRoom}
-use Rattle.model.specs.AllOfThem.{rowOf, Lists, FirstRecord, Renders, StandsAt, GroupAt, Grouped, AllOfThem}
+use Rattle.model.specs.Records.{Rec, doWord, link, hold, goIf, goTo, goHeld, stop, unknown, Group, one, two, biccGroup, groupOf, heldGroupOf, groupAt, heldGroupAt, group, past, numbered, Row, row, Grouping, inFull, first, rowsFrom, recordsFrom, rowsOf, recordsOf, numbersIn}
+use Rattle.model.specs.Translation.{Handed, placeRoom}
+use Rattle.model.specs.AllOfThem.{rowOf, Lists, FirstRecord, Renders, GroupAt, Grouped, AllOfThem}
 use Rattle.model.proofs.Members.{same-self, same-eq, AllIn, get-mem, mem-get, NoTwice, no-twice-at}
 use Rattle.model.proofs.Follows.{Closed}
 use Rattle.model.proofs.Groups.{Stands, put-length, past-add, stands}
 use Rattle.model.proofs.Walk.{member-made, made-member, places-once}
-use Rattle.model.proofs.Accepted.{Took, took, length-rows}
-use Rattle.model.proofs.Demand3.{Laid, laid}
-
-no-row : {A : Type 0} {r : Row} → none ≡ some r → A
-no-row e = let z : _≡_ {A = ℕ} 0 1 = cc in absurd (omega arith)
-
-some-row : {r s : Row} → some r ≡ some s → r ≡ s
-some-row e = cc
-
-no-place : {A : Type 0} {x : Place} → none ≡ some x → A
-no-place e = let z : _≡_ {A = ℕ} 0 1 = cc in absurd (omega arith)
+use Rattle.model.proofs.Accepted.{took, length-rows}
+use Rattle.model.proofs.Demand3.{laid}
 
 -- ---------------------------------------------------------------- a row tells its place, and its first record
 first-told : (x y : Place) (f g : ℕ) → rowOf x f ≡ rowOf y g → f ≡ g
@@ -63,7 +54,7 @@ module _ (lay : Grouping) where
   row-at : (ps : List Place) (f i : ℕ) (r : Row) → getElem? (rowsFrom lay f ps) i ≡ some r
       → (x : Place) × ((g : ℕ) × ((getElem? ps i ≡ some x) × (r ≡ rowOf x g)))
   unfolding rowsFrom
-  row-at [] f i r e = no-row e
+  row-at [] f i r e = absurd (Option·none-ne-some _ e)
   row-at (y ∷ ys) f zero r e = let z : rowOf y f ≡ r = cc in (y, (f, (refl, sym z)))
   row-at (y ∷ ys) f (suc i) r e = row-at ys (past (lay y ys) f) i r e
 
@@ -71,7 +62,7 @@ module _ (lay : Grouping) where
   at-row : (ps : List Place) → NoTwice ps → (f i : ℕ) (x : Place) → getElem? ps i ≡ some x
       → getElem? (rowsFrom lay f ps) i ≡ some (rowOf x (f + first lay ps x))
   unfolding rowsFrom first
-  at-row [] n f i x e = no-place e
+  at-row [] n f i x e = absurd (Option·none-ne-some _ e)
   at-row (y ∷ ys) n f zero x e =
       let z : y ≡ x = cc in
       subst (λ (v : Place). some (rowOf y f) ≡ some (rowOf v (f + pick (samePlace y v) 0 (past (lay y ys) (first lay ys v))))) z
@@ -88,7 +79,7 @@ module _ (lay : Grouping) where
       let y = r .0 in
       let z : x ≡ y = place-told x y g (r .1 .0) (r .1 .1 .1) in
       let there : getElem? ps i ≡ some x = r .1 .1 .0 ∙ ap some (sym z) in
-      (there, first-told x x g (f + first lay ps x) (some-row (sym e ∙ at-row ps n f i x there)))
+      (there, first-told x x g (f + first lay ps x) (Option·some-injective _ _ (sym e ∙ at-row ps n f i x there)))
 
 -- ---------------------------------------------------------------- what a group goes to is in the list, which is closed
 abbrev GoesIn : List Place → Rec Place → Type 0
@@ -194,25 +185,25 @@ module _ (image : List ℕ) (base : ℕ) (ps : List Place) (C : Closed image bas
 
   begins-at : (qs : List Place) (f : ℕ) (x : Place) → getElem? (rowsFrom lay 0 qs) 0 ≡ some (rowOf x f) → f ≡ 0
   unfolding rowsFrom
-  begins-at [] f x e = no-row e
-  begins-at (y ∷ ys) f x e = sym (first-told y x 0 f (some-row e))
+  begins-at [] f x e = absurd (Option·none-ne-some _ e)
+  begins-at (y ∷ ys) f x e = sym (first-told y x 0 f (Option·some-injective _ _ e))
 
   follows-at : (qs : List Place) (k i f g : ℕ) (x y : Place) → getElem? (rowsFrom lay k qs) i ≡ some (rowOf x f)
       → getElem? (rowsFrom lay k qs) (suc i) ≡ some (rowOf y g) → g ≡ past (group image base x) f
   unfolding rowsFrom
-  follows-at [] k i f g x y d e = no-row d
-  follows-at (z ∷ []) k zero f g x y d e = no-row e
+  follows-at [] k i f g x y d e = absurd (Option·none-ne-some _ d)
+  follows-at (z ∷ []) k zero f g x y d e = absurd (Option·none-ne-some _ e)
   follows-at (z ∷ w ∷ ws) k zero f g x y d e =
-      let a : rowOf z k ≡ rowOf x f = some-row d in
-      rw (← (place-told z x k f a), ← (first-told z x k f a)) (sym (first-told w y (past (group image base z) k) g (some-row e)))
+      let a : rowOf z k ≡ rowOf x f = Option·some-injective _ _ d in
+      rw (← (place-told z x k f a), ← (first-told z x k f a)) (sym (first-told w y (past (group image base z) k) g (Option·some-injective _ _ e)))
   follows-at (z ∷ zs) k (suc i) f g x y d e = follows-at zs (past (group image base z) k) i f g x y d e
 
   ends-at : (qs : List Place) (k i f : ℕ) (x : Place) → getElem? (rowsFrom lay k qs) i ≡ some (rowOf x f) → suc i ≡ length qs
       → k + length (recordsFrom lay φ qs) ≡ past (group image base x) f
   unfolding rowsFrom recordsFrom
-  ends-at [] k i f x d e = no-row d
+  ends-at [] k i f x d e = absurd (Option·none-ne-some _ d)
   ends-at (z ∷ []) k zero f x d e =
-      let a : rowOf z k ≡ rowOf x f = some-row d in
+      let a : rowOf z k ≡ rowOf x f = Option·some-injective _ _ d in
       let g = group image base z in
       rw (← (place-told z x k f a), ← (first-told z x k f a), put-length φ g [], ← past-add g k 0) (omega arith)
   ends-at (z ∷ w ∷ ws) k zero f x d e = absurd (omega arith)

@@ -5,25 +5,18 @@ use mathlib.Core.Path.{_≡_, refl, sym, ap, _∙_}
 use mathlib.Core.Logic.{_↔_}
 use mathlib.Core.Bool.{Bool, true, false, _&&_, false≢true}
 use mathlib.Core.List.{List, [], _∷_}
-use mathlib.Core.Option.{Option, none, some}
+use mathlib.Core.Option.{Option, none, some, Option·none-ne-some, Option·some-injective}
 use lib.Dec.{eqb}
 use lib.ListN.{getElem?}
 use borrow.Author.Tests.{eqb-true, eq-eqb}
 use Rattle.numbers.specs.Choice.{pick}
 use Rattle.numbers.proofs.Choice.{both}
-use Rattle.effects.specs.Effect.{Machine}
-use Rattle.model.specs.Records.{goHeld, Row, row, rowsIn, recordsIn}
-use Rattle.model.specs.NewCore.{new, seek}
+use Rattle.model.specs.Records.{Row, row, rowsIn, recordsIn}
+use Rattle.model.specs.NewCore.{seek}
 use Rattle.model.specs.Cores.{oldMark, naming, newMark, newByHeld}
 use Rattle.model.specs.CoreLaws.{Lowest, Naming, PlainOf, CoreLaws}
 use Rattle.model.proofs.Trails.{none-some}
 use Rattle.model.proofs.Six.{kind-6-goes, six-kind}
-
-some-same : {A : Type 0} {x y : A} → some x ≡ some y → x ≡ y
-some-same e = cc
-
-none-row : {A : Type 0} {x : Row} → none ≡ some x → A
-none-row e = let z : _≡_ {A = ℕ} 0 1 = cc in absurd (omega arith)
 
 -- the first row for which a test holds, and what it has
 module _ (test : Row → Bool) (value : Row → ℕ) (such : Row → Type 0) (holds : (x : Row) → test x ≡ true → such x) (tested : (x : Row) → such x → test x ≡ true) where
@@ -37,22 +30,22 @@ module _ (test : Row → Bool) (value : Row → ℕ) (such : Row → Type 0) (ho
     where
       go : (b : Bool) → test x ≡ b → (firstOf xs ≡ some v → (y : Row) × ((value y ≡ v) × Lowest such xs y)) → (y : Row) × ((value y ≡ v) × Lowest such (x ∷ xs) y)
       go true q ih =
-          (x, (some-same (rw q at e), record { number = 0; there = refl; is-such = holds x q; none-before = λ i y l g s. omega arith }))
+          (x, (Option·some-injective _ _ (rw q at e), record { number = 0; there = refl; is-such = holds x q; none-before = λ i y l g s. omega arith }))
       go false q ih =
           let r = ih (rw q at e) in
           let w = r .1 .1 in
           (r .0, (r .1 .0, record { number = suc (w .number); there = w .there; is-such = w .is-such; none-before = before w }))
         where
           before : {y : Row} (w : Lowest such xs y) (i : ℕ) (z : Row) → i < suc (w .number) → getElem? (x ∷ xs) i ≡ some z → ¬ such z
-          before w zero z l g s = false≢true (sym q ∙ tested x (rw (some-same g) s))
+          before w zero z l g s = false≢true (sym q ∙ tested x (rw (Option·some-injective _ _ g) s))
           before w (suc i) z l g s = w .none-before i z (omega arith) g s
 
   pub of-lowest : (rows : List Row) (x : Row) → Lowest such rows x → firstOf rows ≡ some (value x)
   of-lowest rows x w = at (w .number) rows (w .there) (w .none-before)
     where
       at : (n : ℕ) (rows : List Row) → getElem? rows n ≡ some x → ((i : ℕ) (y : Row) → i < n → getElem? rows i ≡ some y → ¬ such y) → firstOf rows ≡ some (value x)
-      at n [] g f = none-row g
-      at zero (y ∷ ys) g f = let e : y ≡ x = some-same g in rw (e, tested x (w .is-such))
+      at n [] g f = absurd (Option·none-ne-some _ g)
+      at zero (y ∷ ys) g f = let e : y ≡ x = Option·some-injective _ _ g in rw (e, tested x (w .is-such))
       at (suc n) (y ∷ ys) g f = past (test y) refl (at n ys g (λ i z l q. f (suc i) z (omega arith) q))
         where
           past : (b : Bool) → test y ≡ b → firstOf ys ≡ some (value x) → firstOf (y ∷ ys) ≡ some (value x)

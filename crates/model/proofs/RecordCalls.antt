@@ -1,7 +1,7 @@
 -- A call that returns a record names the place that its callee returns to, and no other call does.
-use Prim.Native.Nat.{ℕ, _+_, _*_, _/_, _%_, _^_, _<_}
+use Prim.Native.Nat.{ℕ, _/_, _%_, _^_, _<_}
 use native.Mathlib.Omega.{arith}
-use mathlib.Core.Path.{_≡_, refl, sym, ap, _∙_}
+use mathlib.Core.Path.{_≡_, refl, ap, _∙_}
 use mathlib.Core.Bool.{Bool, true, false}
 use mathlib.Core.List.{List, [], _∷_}
 use mathlib.Core.Option.{Option, none, some}
@@ -15,8 +15,8 @@ use Rattle.words.specs.declared.Instruction.the-variants.{Call, Jmpl}
 use Rattle.model.specs.declared.Place.{Place}
 use Rattle.model.specs.declared.Place.the-variants.{Pair, Held}
 use Rattle.model.specs.OldCore.{wordIn, transferOf, target}
-use Rattle.model.specs.Places.{plain, placeAt, member, returnNames, names, namesAt, unimpIn, unimpBehind, followers, Makes, from-place}
-use Rattle.model.specs.RecordCalls.{Links, by-call, by-jmpl, Unimp, UnimpBehind, Names, ReturnsPast, RecordCalls}
+use Rattle.model.specs.Places.{plain, placeAt, returnNames, names, namesAt, unimpIn, unimpBehind, followers, Makes, from-place}
+use Rattle.model.specs.RecordCalls.{Links, by-call, by-jmpl, Unimp, UnimpBehind, Names, RecordCalls}
 use Rattle.model.proofs.Members.{mem-here, mem-there}
 use Rattle.model.proofs.Accepted.{words-lt}
 
@@ -72,20 +72,20 @@ module _ (image : List ℕ) (base p n : ℕ) (ib : Below 256 image) where
         let i = linked word (instructionOf word) refl k in
         record { slot = i .slot; in-slot = i .in-slot; named = rw w (i .named ∙ ap (λ (l : List Place). i .slot ∷ l) (rw e r)) }
 
-    past : UnimpBehind image base p → Names image base p n (plain (plus p 12) ∷ [])
+    names-past : UnimpBehind image base p → Names image base p n (plain (plus p 12) ∷ [])
     unfolding returnNames
-    past u = returns true (behind u) (plain (plus p 12) ∷ []) refl
+    names-past u = returns true (behind u) (plain (plus p 12) ∷ []) refl
 
-    not-past : ¬ UnimpBehind image base p → Names image base p n []
+    names-no-more : ¬ UnimpBehind image base p → Names image base p n []
     unfolding returnNames
-    not-past f = returns false (not-behind f) [] refl
+    names-no-more f = returns false (not-behind f) [] refl
 
     made : (entries : List ℕ) → Makes image base entries (Pair p n) → UnimpBehind image base p → Makes image base entries (plain (plus p 12))
-    made entries m u = from-place (Pair p n) (plain (plus p 12)) m (rw (past u .named) (mem-there _ _ _ (mem-there _ _ _ (mem-here _ _))))
+    made entries m u = from-place (Pair p n) (plain (plus p 12)) m (rw (names-past u .named) (mem-there _ _ _ (mem-there _ _ _ (mem-here _ _))))
 
 pub record-calls : RecordCalls
 unfolding RecordCalls followers namesAt names transferOf
 record-calls image base p n word ib w = (
-  λ k. record { past = past image base p n ib word w k; not-past = not-past image base p n ib word w k; made = made image base p n ib word w k },
+  λ k. record { past = names-past image base p n ib word w k; not-past = names-no-more image base p n ib word w k; made = made image base p n ib word w k },
   λ rs1 x e. rw (w, e),
 )
