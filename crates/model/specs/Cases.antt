@@ -344,19 +344,19 @@ cases =
     ∷ row 11 (answerNumbers (translation (replicate 16388 0) 0 (bytesOf (0 ∷ [])) 16 12 .answer)) (1 ∷ 16388 ∷ 0 ∷ [])
     ∷ row 11 (answerNumbers (given (0 ∷ []) (replicate 64 0) 16 12 .answer)) (0 ∷ 1 ∷ 1 ∷ [])
     ∷ row 11 (answerNumbers (given (0 ∷ []) (replicate 65 0) 16 12 .answer)) (3 ∷ 0 ∷ 0 ∷ [])
-    -- "add, addx, sub, subx, and, andn, or, orn, xor, xnor, each plain and setting flags; sll, srl, sra", by V8's op3, with C set: add, and, or, xor,
+    -- "add, addx, sub, subx, and, andn, or, orn, xor, xnor, each plain and setting flags; sll, srl, sra", by V8's op3, with N, V and C set: add, and, or, xor,
     -- sub, andn, orn, xnor, addx, subx; shifts by 7; the flag forms where sums and differences are 0 or one off
-    ∷ row 0 (each (λ o. worked 1 0xC0000F0F 0x4F00FF07 (ofThree o)) (0 ∷ 1 ∷ 2 ∷ 3 ∷ 4 ∷ 5 ∷ 6 ∷ 7 ∷ 8 ∷ 12 ∷ []))
-    (0x0F010E16 ∷ 1 ∷ 0x40000F07 ∷ 1 ∷ 0xCF00FF0F ∷ 1 ∷ 0x8F00F008 ∷ 1 ∷ 0x70FF1008 ∷ 1 ∷ 0x80000008 ∷ 1 ∷ 0xF0FF0FFF ∷ 1 ∷ 0x70FF0FF7 ∷ 1 ∷ 0x0F010E17 ∷ 1 ∷ 0x70FF1007 ∷ 1
+    ∷ row 0 (each (λ o. worked 11 0xC0000F0F 0x4F00FF07 (ofThree o)) (0 ∷ 1 ∷ 2 ∷ 3 ∷ 4 ∷ 5 ∷ 6 ∷ 7 ∷ 8 ∷ 12 ∷ []))
+    (0x0F010E16 ∷ 11 ∷ 0x40000F07 ∷ 11 ∷ 0xCF00FF0F ∷ 11 ∷ 0x8F00F008 ∷ 11 ∷ 0x70FF1008 ∷ 11 ∷ 0x80000008 ∷ 11 ∷ 0xF0FF0FFF ∷ 11 ∷ 0x70FF0FF7 ∷ 11 ∷ 0x0F010E17 ∷ 11 ∷ 0x70FF1007 ∷ 11
     ∷ [])
-    ∷ row 0 (each (λ o. worked 1 0xC0000F0F 0x4F00FF07 (ofThree o)) (16 ∷ 17 ∷ 18 ∷ 19 ∷ 20 ∷ 21 ∷ 22 ∷ 23 ∷ 24 ∷ 28 ∷ []))
+    ∷ row 0 (each (λ o. worked 11 0xC0000F0F 0x4F00FF07 (ofThree o)) (16 ∷ 17 ∷ 18 ∷ 19 ∷ 20 ∷ 21 ∷ 22 ∷ 23 ∷ 24 ∷ 28 ∷ []))
     (0x0F010E16 ∷ 1 ∷ 0x40000F07 ∷ 0 ∷ 0xCF00FF0F ∷ 8 ∷ 0x8F00F008 ∷ 8 ∷ 0x70FF1008 ∷ 2 ∷ 0x80000008 ∷ 8 ∷ 0xF0FF0FFF ∷ 8 ∷ 0x70FF0FF7 ∷ 0 ∷ 0x0F010E17 ∷ 1 ∷ 0x70FF1007 ∷ 2
     ∷ [])
-    ∷ row 0 (each (λ o. worked 1 0x80000000 0x80000000 (ofThree o)) (16 ∷ 20 ∷ 24 ∷ 28 ∷ [])) (0 ∷ 7 ∷ 0 ∷ 4 ∷ 1 ∷ 3 ∷ 0xFFFFFFFF ∷ 9 ∷ [])
-    ∷ row 0 (each (λ o. worked 1 0xC0000F0F 0x4F00FF07 (ofThree o)) (0x25 ∷ 0x26 ∷ 0x27 ∷ [])) (0x78780 ∷ 1 ∷ 0x0180001E ∷ 1 ∷ 0xFF80001E ∷ 1 ∷ [])
-    ∷ row 0 (each (λ o. worked 1 0x7FFFFFFF 63 (ofThree o)) (0x25 ∷ 0x26 ∷ 0x27 ∷ [])) (0x80000000 ∷ 1 ∷ 0 ∷ 1 ∷ 0 ∷ 1 ∷ [])
+    ∷ row 0 (each (λ o. worked 11 0x80000000 0x80000000 (ofThree o)) (16 ∷ 20 ∷ 24 ∷ 28 ∷ [])) (0 ∷ 7 ∷ 0 ∷ 4 ∷ 1 ∷ 3 ∷ 0xFFFFFFFF ∷ 9 ∷ [])
+    ∷ row 0 (each (λ o. worked 11 0xC0000F0F 0x4F00FF07 (ofThree o)) (0x25 ∷ 0x26 ∷ 0x27 ∷ [])) (0x78780 ∷ 11 ∷ 0x0180001E ∷ 11 ∷ 0xFF80001E ∷ 11 ∷ [])
+    ∷ row 0 (each (λ o. worked 11 0x7FFFFFFF 63 (ofThree o)) (0x25 ∷ 0x26 ∷ 0x27 ∷ [])) (0x80000000 ∷ 11 ∷ 0 ∷ 11 ∷ 0 ∷ 11 ∷ [])
     -- "sethi"; "1 Ticc taken, with (rs1 + operand) modulo 128", and one that is not
-    ∷ row 0 (worked 1 0 0 0x073FFFFF) (0xFFFFFC00 ∷ 1 ∷ [])
+    ∷ row 0 (worked 11 0 0 0x073FFFFF) (0xFFFFFC00 ∷ 11 ∷ [])
     ∷ row 0 (ended (run (over (0x91D06005 ∷ [])) 1 (start 1 1000 0)) ++ ended (run (over (0x83D06005 ∷ [])) 1 (start 1 1000 0))) (1 ∷ 109 ∷ 0 ∷ 0 ∷ [])
     -- "ld, ldub, ldsb, lduh, ldsh, st, stb, sth", big-endian: the first bytes read and written, by V8's op3
     ∷ row 0 (each (λ o. moved 4096 (ofMemory o)) (0 ∷ 1 ∷ 9 ∷ 2 ∷ 10 ∷ []))

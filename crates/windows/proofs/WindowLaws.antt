@@ -57,6 +57,7 @@ around-ins k h =
     let i : 16 * 0 + 8 * (3 - (24 + k) / 8) + (24 + k) % 8 ≡ k = omega arith in
     rw (le-ltb (8 + k) 8 (omega arith), le-ltb (24 + k) 8 (omega arith), o, i) (omega arith)
 
+-- the sixteen places of each window's ins and locals
 apart-at : (w v x y : ℕ) → w < 8 → v < 8 → x < 16 → y < 16 → 34 + (16 * w + x) % 128 ≡ 34 + (16 * v + y) % 128 → (w ≡ v) × (x ≡ y)
 apart-at w v x y a b c d e = (omega arith, omega arith)
 
@@ -253,9 +254,9 @@ window-laws =
     record {
       placed = place-of;
       apart = places-apart;
+      own = places-own;
       overlap = next-ins;
       around = around-ins;
-      own = places-own;
       current = current-so;
       saves = saves-so;
       restores = restores-so;
