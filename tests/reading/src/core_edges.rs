@@ -666,19 +666,18 @@ pub fn new_edges() -> Vec<Edge<New>> {
 
 /// The edges with this reading's answers, as files of cases.
 pub fn old_edges_file() -> Vec<u8> {
-    let edges = old_edges();
-    let cases = edges.iter().flat_map(|edge| old_run_case(edge.call()));
-    bytes([edges.len() as u32])
-        .into_iter()
-        .chain(cases)
-        .collect()
+    file_of(old_edges(), |edge| old_run_case(edge.call()))
 }
 
 pub fn new_edges_file() -> Vec<u8> {
-    let edges = new_edges();
-    let cases = edges.iter().flat_map(|edge| new_run_case(edge.call()));
-    bytes([edges.len() as u32])
-        .into_iter()
-        .chain(cases)
-        .collect()
+    file_of(new_edges(), |edge| new_run_case(edge.call()))
+}
+
+fn file_of<Program>(
+    edges: Vec<Edge<Program>>,
+    case: impl Fn(&Edge<Program>) -> Vec<u8>,
+) -> Vec<u8> {
+    let mut file = bytes([edges.len() as u32]);
+    file.extend(edges.iter().flat_map(case));
+    file
 }
