@@ -18,7 +18,7 @@ use Rattle.model.specs.Places.{placeAt, nextOf, kindOf, samePlace, membe
 use Rattle.model.specs.Walk.{table}
 use Rattle.model.specs.Records.{Rec, doWord, link, hold, goIf, goTo, goHeld, stop, unknown, Group, one, two, biccGroup, groupOf, heldGroupOf, groupAt, heldGroupAt, group, past, numbered, Row, row, Grouping, inFull, first, rowsFrom, recordsFrom, rowsOf, recordsOf, numbersIn}
 use Rattle.model.specs.Translation.{Handed, placeRoom}
-use Rattle.model.specs.AllOfThem.{rowOf, Lists, FirstRecord, Renders, GroupAt, Grouped, AllOfThem}
+use Rattle.model.specs.AllOfThem.{rowOf, Lists, FirstRecord, Renders, GroupAt, sizeOf, Grouped, AllOfThem}
 use Rattle.model.proofs.Members.{same-self, same-eq, AllIn, get-mem, mem-get, NoTwice, no-twice-at}
 use Rattle.model.proofs.Follows.{Closed}
 use Rattle.model.proofs.Groups.{Stands, put-length, past-add, stands}
@@ -136,6 +136,11 @@ group-goes image base ps (Held p) a = at (wordIn image base p)
     at none = tt
     at (some word) = held-goes ps (transferOf (instructionOf word)) word p
 
+past-size : (g : Group Place) (f : ℕ) → past g f ≡ f + sizeOf g
+unfolding past
+past-size (one r) f = omega arith
+past-size (two r s) f = omega arith
+
 -- ---------------------------------------------------------------- of a closed list with no place twice, its table and its records
 module _ (image : List ℕ) (base : ℕ) (ps : List Place) (C : Closed image base ps) (n : NoTwice ps) where
   abbrev lay : Grouping
@@ -216,8 +221,8 @@ module _ (image : List ℕ) (base : ℕ) (ps : List Place) (C : Closed image bas
       record {
         stands = stands-at;
         begins = begins-at ps;
-        follows = follows-at ps 0;
-        ends = λ i f x d e. let z : suc i ≡ length ps = e ∙ length-rows lay 0 ps in rw zero-add at (ends-at ps 0 i f x d z);
+        follows = λ i f g x y d e. follows-at ps 0 i f g x y d e ∙ past-size (group image base x) f;
+        ends = λ i f x d e. let z : suc i ≡ length ps = e ∙ length-rows lay 0 ps in (rw zero-add at (ends-at ps 0 i f x d z)) ∙ past-size (group image base x) f;
       }
 
 pub all-of-them : AllOfThem

@@ -1,6 +1,6 @@
 -- Demand 2 of the request: "The places and records of an accepted image are those that 01's rules make, and all of them", of the bytes that
 -- `translation` hands back.
-use Prim.Native.Nat.{ℕ, suc, _*_}
+use Prim.Native.Nat.{ℕ, suc, _+_, _*_}
 use mathlib.Core.Path.{_≡_}
 use mathlib.Core.List.{List}
 use mathlib.Core.Option.{some}
@@ -9,7 +9,7 @@ use Rattle.numbers.specs.Number.{Below}
 use Rattle.model.specs.declared.Place.{Place}
 use Rattle.model.specs.declared.Answer.the-variants.{Accepted}
 use Rattle.model.specs.Places.{placeAt, nextOf, kindOf, Makes}
-use Rattle.model.specs.Records.{Rec, doWord, link, hold, goIf, goTo, goHeld, stop, unknown, Group, one, two, group, past, Row, row, rowsIn, recordsIn, numbersIn}
+use Rattle.model.specs.Records.{Rec, doWord, link, hold, goIf, goTo, goHeld, stop, unknown, Group, one, two, group, Row, row, rowsIn, recordsIn, numbersIn}
 use Rattle.model.specs.Translation.{Handed, translation}
 
 -- the row of a place with its first record f: "four numbers each: address, next, kind, first record"
@@ -44,12 +44,17 @@ abbrev pub GroupAt : List Row → List (Rec ℕ) → ℕ → Group Place → Typ
 GroupAt rows records f (one r) = StandsAt rows records f r
 GroupAt rows records f (two r s) = StandsAt rows records f r × StandsAt rows records (suc f) s
 
+-- how many records a group has
+abbrev pub sizeOf : Group Place → ℕ
+sizeOf (one r) = 1
+sizeOf (two r s) = 2
+
 -- "Groups follow place order": from record 0 on, each right behind the one before, up to the last record
 pub record Grouped (groupOf : Place → Group Place) (rows : List Row) (records : List (Rec ℕ)) : Type 0 where
   pub stands : (i f : ℕ) (x : Place) → getElem? rows i ≡ some (rowOf x f) → GroupAt rows records f (groupOf x)
   pub begins : (f : ℕ) (x : Place) → getElem? rows 0 ≡ some (rowOf x f) → f ≡ 0
-  pub follows : (i f g : ℕ) (x y : Place) → getElem? rows i ≡ some (rowOf x f) → getElem? rows (suc i) ≡ some (rowOf y g) → g ≡ past (groupOf x) f
-  pub ends : (i f : ℕ) (x : Place) → getElem? rows i ≡ some (rowOf x f) → suc i ≡ length rows → length records ≡ past (groupOf x) f
+  pub follows : (i f g : ℕ) (x y : Place) → getElem? rows i ≡ some (rowOf x f) → getElem? rows (suc i) ≡ some (rowOf y g) → g ≡ f + sizeOf (groupOf x)
+  pub ends : (i f : ℕ) (x : Place) → getElem? rows i ≡ some (rowOf x f) → suc i ≡ length rows → length records ≡ f + sizeOf (groupOf x)
 
 -- just the places and records counted; what is handed back are bytes
 pub record Translated (image : List ℕ) (base : ℕ) (entryList : List ℕ) (placeCount recordCount : ℕ) (places records : List ℕ) : Type 0 where

@@ -299,9 +299,10 @@ oldCloses w word = oldTold (word ∷ []) (nestedAt w) 9 ++ oldTold (slotted word
 unfoldable pub newCloses : ℕ → ℕ → List ℕ
 newCloses w word = newTold 2 3 (word ∷ []) (nestedAt w) 9 ++ newTold 4 6 (slotted word) (nestedAt w) 9 ++ newTold 2 4 (held word) (nestedAt w) 9
 
--- a table with two plain places of one address behind a slot place of it, and records that go by the held address, end with 2 and end with 3
+-- a table with two plain places of one address behind a slot place of it, a held one and one of no kind that there is; records that go by the held
+-- address, end with 2 and end with 3
 abbrev pub twice : List ℕ
-twice = 8 ∷ 20 ∷ 1 ∷ 2 ∷ 8 ∷ 12 ∷ 0 ∷ 1 ∷ 8 ∷ 12 ∷ 0 ∷ 2 ∷ []
+twice = 8 ∷ 20 ∷ 1 ∷ 2 ∷ 8 ∷ 0 ∷ 2 ∷ 2 ∷ 8 ∷ 12 ∷ 9 ∷ 2 ∷ 8 ∷ 12 ∷ 0 ∷ 1 ∷ 8 ∷ 12 ∷ 0 ∷ 2 ∷ []
 
 abbrev pub goesOrEnds : List ℕ
 goesOrEnds = 6 ∷ 0 ∷ 0 ∷ 7 ∷ 2 ∷ 5 ∷ 7 ∷ 3 ∷ 6 ∷ []
