@@ -669,8 +669,12 @@ cases =
     -- "Kind 6 seeks the lowest-numbered plain place of the held address", a begin likewise
     ∷ row 0 (newEnded (run (newNext (bytesOf goesOrEnds) (bytesOf twice) 0 16 0) 2 (live (new (machine (replicate fileSize 0) 0 []) 0 8)))) (2 ∷ 5 ∷ [])
     ∷ row 0 (told (trailOf (newOver (bytesOf goesOrEnds) (bytesOf twice) 0 16 0) 9 (newBegin (bytesOf twice) 0 16 (begins 8 7 0)))) (0 ∷ 8 ∷ 7 ∷ 2 ∷ 5 ∷ [])
+    -- the held address stays: a kind 6 behind a kind 6 goes by it again
+    ∷ row 0 (newEnded (run (newNext (bytesOf (6 ∷ 0 ∷ 0 ∷ 6 ∷ 0 ∷ 0 ∷ [])) (bytesOf twice) 0 16 0) 2 (live (new (machine (replicate fileSize 0) 0 []) 0 8)))) (0 ∷ 0 ∷ [])
     -- "in a malformed table that of the lowest-numbered place naming that record", of whatever kind it is
     ∷ row 0 (told (trail (newOver (bytesOf (5 ∷ 0 ∷ 0 ∷ [])) (bytesOf (8 ∷ 0 ∷ 9 ∷ 0 ∷ 4 ∷ 8 ∷ 0 ∷ 0 ∷ [])) 0 16 0) 2 9 0 (live (new (machine (replicate fileSize 0) 0 []) 0 0)))) (0 ∷ 8 ∷ 0 ∷ 1 ∷ 8 ∷ 0 ∷ 0 ∷ 0 ∷ [])
+    -- "the order is: PC a multiple of 4, PC in the image": a misaligned address inside, and one outside
+    ∷ row 0 (oldTold (nop ∷ nop ∷ []) (begins 2 7 0) 9 ++ oldTold (nop ∷ nop ∷ []) (begins 10 7 0) 9) (0 ∷ 2 ∷ 7 ∷ 4 ∷ 2 ∷ 0 ∷ 10 ∷ 7 ∷ 4 ∷ 10 ∷ [])
     -- "(address − base) modulo 2^32, plus 4, is at most its length": the one word of an image, and one past it; no whole word
     ∷ row 0 (oldTold (0x91D02000 ∷ []) (begins 0 7 0) 9 ++ oldTold (0x91D02000 ∷ []) (begins 4 7 0) 9) (0 ∷ 0 ∷ 7 ∷ 1 ∷ 0 ∷ 0 ∷ 4 ∷ 7 ∷ 2 ∷ 4 ∷ [])
     ∷ row 0 (newTold 1 1 (0x91D02000 ∷ []) (begins 0 7 0) 9 ++ newTold 1 1 (0x91D02000 ∷ []) (begins 4 7 0) 9) (0 ∷ 0 ∷ 7 ∷ 1 ∷ 0 ∷ 0 ∷ 4 ∷ 7 ∷ 2 ∷ 4 ∷ [])
