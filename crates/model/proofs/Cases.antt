@@ -7,6 +7,7 @@ use Rattle.numbers.proofs.Choice.{both}
 use Rattle.numbers.specs.Number.{plus, minus, signed, numberAt, putNumber, bytesOf, numbersOf, upTo}
 use Rattle.words.specs.Reader.{bits, bitSet, operandOf, format0Of, format2Of, format3Of, setFrom, registerStrays, rdyStrays, wryStrays, unusedSet, strictly, byFormat, instructionOf, isUnimp}
 use Rattle.words.specs.Conditions.{rows, bitAt, holdsOf, bitOf, nzvcOf}
+use Rattle.machine.specs.Ends.{endingFrom}
 use Rattle.effects.proofs.Opened.{machine-open, windows-open}
 use Rattle.model.specs.Cases.{over, start, shown, product, endOf, ended, newEnded, stepAt, cases, noCase, Row, bytesBack, given, answered, listedAt, listed, entriesTold, told, begins, beginsWithY, anyWindows, nestedAt, anyState, each, worked, touched, moved, edge, lastBytes, stopsWith, newBeginsEnd, entriesWhole, wholeTold, whole, oldCloses, newCloses, oldCut, oldTold, newCut, newTold, yTold, windowed, windowsTold, fileTold}
 use Rattle.model.specs.Trails.{shownOf, reached}
@@ -57,7 +58,7 @@ words-open = tt
 
 -- the old core
 old-open : Unit {0}
-unfolding step run inImage wordIn transferOf target follows branches jumps executes fetches oldNext oldBegun
+unfolding endingFrom step run inImage wordIn transferOf target follows branches jumps executes fetches oldNext oldBegun
 old-open = tt
 
 -- places, and the walk that finds them

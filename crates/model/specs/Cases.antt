@@ -3,7 +3,7 @@ use Prim.Native.Nat.{ℕ, _+_, _*_}
 use mathlib.Core.List.{List, [], _∷_, _++_, map}
 use lib.ListN.{length, getD, set, replicate}
 use Rattle.numbers.specs.Number.{bytesOf, upTo}
-use Rattle.machine.specs.Ends.{Ending, ending, Next, State, state, live}
+use Rattle.machine.specs.Ends.{Ending, ending, endingFrom, Next, State, state, live}
 use Rattle.machine.specs.Registers.{fileSize, yOf}
 use Rattle.windows.specs.Windows.{nestingOf}
 use Rattle.effects.specs.Effect.{machine}
@@ -438,6 +438,8 @@ cases =
     ∷ row 0 (newBegins [] 0 16 8 (bytesOf (upTo (λ i. i + 5) 167)) .state) (bytesOf (0 ∷ upTo (λ i. i + 6) 31 ++ (5 ∷ 0 ∷ 0 ∷ 6 ∷ 8 ∷ 42 ∷ 6 ∷ upTo (λ i. i + 44) 96 ++ upTo (λ i. i + 29) 8 ++ upTo (λ i. i + 21) 8 ++ upTo (λ i. i + 13) 8 ++ upTo (λ i. i + 164) 8)))
     -- and a begin of the old core
     ∷ row 0 (oldBegins 8 (bytesOf (upTo (λ i. i + 5) 168))) (bytesOf (0 ∷ upTo (λ i. i + 6) 31 ++ (5 ∷ 8 ∷ 12 ∷ 0 ∷ 0 ∷ 0 ∷ 43 ∷ 6 ∷ upTo (λ i. i + 45) 96 ++ upTo (λ i. i + 29) 8 ++ upTo (λ i. i + 21) 8 ++ upTo (λ i. i + 13) 8 ++ upTo (λ i. i + 165) 8)))
+    -- the numbers of an end in a state that no core may have written: any but 1 to 9 is still going
+    ∷ row 0 (endOf (endingFrom 0 7) ++ endOf (endingFrom 1 7) ++ endOf (endingFrom 9 7) ++ endOf (endingFrom 10 7)) (0 ∷ 0 ∷ 1 ∷ 7 ∷ 9 ∷ 7 ∷ 0 ∷ 0 ∷ [])
     -- and how many bytes a state has, of either core
     ∷ row 0 (length (oldBegins 8 []) ∷ length (newBegins [] 0 16 8 [] .state) ∷ oldSize ∷ newSize ∷ []) (672 ∷ 668 ∷ 672 ∷ 668 ∷ [])
     -- each refusal, with both buffers: "Every refusal fills both buffers with 0"
