@@ -5,13 +5,15 @@ use mathlib.Core.Path.{_≡_, refl, ap, _∙_}
 use mathlib.Core.Bool.{Bool, true, false}
 use mathlib.Core.List.{List}
 use lib.Dec.{eqb, leb}
-use lib.ListN.{length, getD, set, length-set}
+use lib.ListN.{length, getD, length-set}
 use lib.Seq.{getD-set-same, getD-set-other}
 use lib.IntN.{ℤ, pos, negsuc, _+ℤ_, _*ℤ_}
 use borrow.Author.Tests.{leb-true, leb-false}
 use Rattle.numbers.specs.Choice.{pick}
 use Rattle.words.specs.Conditions.{bitOf, nzvcOf}
 use Rattle.machine.specs.Registers.{fileSize, registerOf, putRegister, yOf, putY, valueOf}
+use Rattle.machine.proofs.Zero.{put-zero}
+use Rattle.machine.proofs.Writes.{put-own, put-far}
 use Rattle.arithmetic.specs.Arithmetic.{top, exactProduct, modulo64, productOf, outcomeOf, written, arithmeticOf}
 use Rattle.arithmetic.specs.ProductsExact.{Exact, ProductsExact}
 use Rattle.arithmetic.proofs.Products.{modulo-lt, below-zero}
@@ -31,27 +33,21 @@ module _ (rs : List ℕ) (rd high low : ℕ) (l : length rs ≡ fileSize) where
   abbrev made : List ℕ
   made = putRegister (putY rs high) rd low
 
-  -- what stands at i but for the last write, which makes register 0 be 0
-  before-0 : (i : ℕ) → (i ≡ 0 → ⊥) → getD made i 0 ≡ getD (set (set rs 32 high) (rd % 32) low) i 0
-  unfolding putRegister putY
-  before-0 i n = getD-set-other (set (set rs 32 high) (rd % 32) low) 0 i 0 0 n
-
   y-made : yOf made ≡ high
-  unfolding yOf
-  y-made = before-0 32 (omega arith) ∙ getD-set-other (set rs 32 high) (rd % 32) 32 low 0 (omega arith) ∙ getD-set-same rs 32 high 0 (omega arith)
+  unfolding yOf putY
+  y-made = put-far (putY rs high) rd low 32 (omega arith) (omega arith) ∙ getD-set-same rs 32 high 0 (omega arith)
 
   register-made : (rd % 32 ≡ 0 → ⊥) → registerOf made rd ≡ low
-  unfolding registerOf
-  register-made n = before-0 (rd % 32) n ∙ getD-set-same (set rs 32 high) (rd % 32) low 0 (rw (length-set rs 32 high, l) (omega arith))
+  unfolding registerOf putY
+  register-made n = put-own (putY rs high) rd low (length-set rs 32 high ∙ l) n
 
   zero-made : registerOf made 0 ≡ 0
-  unfolding putRegister putY registerOf
-  zero-made =
-      let k = rd % 32 in
-      getD-set-same (set (set rs 32 high) k low) 0 0 0 (rw (length-set (set rs 32 high) k low, length-set rs 32 high, l) (omega arith))
+  unfolding registerOf
+  zero-made = put-zero (putY rs high) rd low
 
   others-made : (i : ℕ) → (i ≡ 0 → ⊥) → (i ≡ rd % 32 → ⊥) → (i ≡ 32 → ⊥) → getD made i 0 ≡ getD rs i 0
-  others-made i n m y = before-0 i n ∙ getD-set-other (set rs 32 high) (rd % 32) i low 0 m ∙ getD-set-other rs 32 i high 0 y
+  unfolding putY
+  others-made i n m y = put-far (putY rs high) rd low i n m ∙ getD-set-other rs 32 i high 0 y
 
 -- N and Z of a word, V and C clear
 word-flags : (low : ℕ) → low < 2 ^ 32 → nzvcOf (top low) (eqb low 0) false false ≡ 8 * (low / 2 ^ 31) + pick (eqb low 0) 4 0

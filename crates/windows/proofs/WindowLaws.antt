@@ -7,15 +7,16 @@ use mathlib.Core.Logic.{_⊎_, inl, inr}
 use mathlib.Core.Bool.{Bool, true, false}
 use mathlib.Core.List.{List}
 use lib.Dec.{eqb, ltb}
-use lib.ListN.{length, getD, set}
-use lib.Seq.{getD-set-same, getD-set-other}
+use lib.ListN.{getD}
+use lib.Seq.{getD-set-other}
 use borrow.Author.Tests.{eqb-true, eqb-false, lt-ltb, le-ltb, ltb-true, ltb-false}
 use Rattle.words.specs.declared.WindowOperation.the-variants.{Save, Restore}
 use Rattle.machine.specs.Ends.{ending, go, halt}
-use Rattle.machine.specs.Registers.{fileSize, registerOf, putRegister, yOf}
+use Rattle.machine.specs.Registers.{registerOf, putRegister, yOf}
 use Rattle.windows.specs.Windows.{nestingOf, placeOf, ringPlace, laid, taken, cleared, Held, turned, windowOf}
 use Rattle.windows.specs.WindowLaws.{Place, inWindow, Left, Turned, savesOf, WindowLaws}
 use Rattle.machine.proofs.Zero.{put-zero}
+use Rattle.machine.proofs.Writes.{put-own, put-far}
 use Rattle.windows.proofs.Ring.{ring-past, ring-lt, ring-apart, Covered, covered, free, covers, laid-low, laid-free, laid-own, laid-length, cleared-low, cleared-free, taken-other, taken-own, put-nesting, put-held, turned-nesting, turned-low, turned-held, in-alike}
 
 -- ---------------------------------------------------------------- places
@@ -74,24 +75,14 @@ places-own w v r s a b lr hr ls hs e =
     numbered r s a b c d e = omega arith
 
 -- ---------------------------------------------------------------- a register is written
-not-first : (rs : List ℕ) (rd t j : ℕ) → (j ≡ 0 → ⊥) → getD (putRegister rs rd t) j 0 ≡ getD (set rs (rd % 32) t) j 0
-unfolding putRegister
-not-first rs rd t j n = getD-set-other (set rs (rd % 32) t) 0 j 0 0 n
-
-put-own : (rs : List ℕ) (rd t : ℕ) → length rs ≡ fileSize → (rd % 32 ≡ 0 → ⊥) → getD (putRegister rs rd t) (rd % 32) 0 ≡ t
-put-own rs rd t l n = not-first rs rd t (rd % 32) n ∙ getD-set-same rs (rd % 32) t 0 (omega (arith, l))
-
 -- a number of the file that a write of rd leaves
 put-other : (rs : List ℕ) (rd t j : ℕ) → getD rs 0 0 ≡ 0 → (rd % 32 ≡ 0) ⊎ (j ≡ rd % 32 → ⊥) → getD (putRegister rs rd t) j 0 ≡ getD rs j 0
 put-other rs rd t j z f = go (eqb j 0) refl f
   where
-    outer : (j ≡ 0 → ⊥) → getD (putRegister rs rd t) j 0 ≡ getD (set rs (rd % 32) t) j 0
-    outer n = not-first rs rd t j n
-
     go : (b : Bool) → eqb j 0 ≡ b → (rd % 32 ≡ 0) ⊎ (j ≡ rd % 32 → ⊥) → getD (putRegister rs rd t) j 0 ≡ getD rs j 0
     go true q f = rw (eqb-true j 0 q) (put-zero rs rd t ∙ sym z)
-    go false q (inl e) = let n = eqb-false j 0 q in outer n ∙ getD-set-other rs (rd % 32) j t 0 (λ g. n (g ∙ e))
-    go false q (inr n) = outer (eqb-false j 0 q) ∙ getD-set-other rs (rd % 32) j t 0 n
+    go false q (inl e) = let n = eqb-false j 0 q in put-far rs rd t j n (λ g. n (g ∙ e))
+    go false q (inr n) = put-far rs rd t j (eqb-false j 0 q) n
 
 -- the file shows it at its place alone
 module _ (rs : List ℕ) (h : Held rs) (rd t : ℕ) where

@@ -2,11 +2,9 @@
 
 use std::fs;
 
-use reading::core_edges::{new_edges, new_edges_file, old_edges, old_edges_file};
+use reading::core_edges::{new_edges, new_edges_file, old_edges, old_edges_file, Edge};
 use reading::edges::{edges, edges_file, listings, listings_file};
-use reading::interface::{new_run_call, old_run_call};
 use reading::listing::listing;
-use reading::new_core::Program;
 use reading::old_core::Image;
 use reading::translator::{answer_of, translate};
 
@@ -40,17 +38,20 @@ fn listings_are_those_by_hand() {
     }
 }
 
+/// What a run left, and its end, are those by hand.
+fn held_to<Program>(edge: &Edge<Program>, state: &[u8], data: &[u8], end: u32, position: usize) {
+    let by_hand = edge.answer();
+    assert!(state == by_hand.0, "edge {position}: {state:?}");
+    assert!(data == by_hand.1, "edge {position}");
+    assert_eq!(end, edge.end(), "edge {position}");
+}
+
 #[test]
 fn old_runs_are_those_by_hand() {
     for (position, edge) in old_edges().iter().enumerate() {
         let mut call = edge.call();
-        let image = Image::at(call.base, &call.image);
-        let (state, data) = (&mut call.state, &mut call.data);
-        let (end, _) = old_run_call(image, call.data_base, state, data, call.count);
-        let by_hand = edge.answer();
-        assert!(*state == by_hand.0[..], "edge {position}: {state:?}");
-        assert!(*data == by_hand.1, "edge {position}");
-        assert_eq!(end, edge.end(), "edge {position}");
+        let (end, _) = call.run();
+        held_to(edge, &call.state, &call.data, end, position);
     }
 }
 
@@ -58,18 +59,8 @@ fn old_runs_are_those_by_hand() {
 fn new_runs_are_those_by_hand() {
     for (position, edge) in new_edges().iter().enumerate() {
         let mut call = edge.call();
-        let program = Program {
-            records: &call.records,
-            places: &call.places,
-            base: call.base,
-            image_length: call.image_length,
-        };
-        let (state, data) = (&mut call.state, &mut call.data);
-        let (end, _) = new_run_call(program, call.data_base, state, data, call.count);
-        let by_hand = edge.answer();
-        assert!(*state == by_hand.0[..], "edge {position}: {state:?}");
-        assert!(*data == by_hand.1, "edge {position}");
-        assert_eq!(end, edge.end(), "edge {position}");
+        let (end, _) = call.run();
+        held_to(edge, &call.state, &call.data, end, position);
     }
 }
 
