@@ -134,8 +134,10 @@ fn main() {
     let mut buffer = [0u8; LARGEST];
     run(Kind::Runs(Core::Old), b"old_core.bin", &mut buffer);
     run(Kind::Runs(Core::Old), b"old_core_base.bin", &mut buffer);
+    run(Kind::Runs(Core::Old), b"old_core_edges.bin", &mut buffer);
     run(Kind::Runs(Core::New), b"new_core.bin", &mut buffer);
     run(Kind::Runs(Core::New), b"new_core_base.bin", &mut buffer);
+    run(Kind::Runs(Core::New), b"new_core_edges.bin", &mut buffer);
     run_with(
         Kind::Runs(Core::Trail),
         b"trails.bin",

@@ -11,6 +11,7 @@ use native.Mathlib.Omega.{arith}
 use mathlib.Core.List.{List, [], _∷_, _++_, append-nil, append-assoc}
 use mathlib.Core.Path.{_≡_, refl, sym, ap, _∙_, fun-ext}
 use Prim.Native.Nat.{ℕ, suc, _+_, _*_, _^_, _≤_, _<_}
+use Rattle.model.proofs.Groups.{put-length}
 use Rattle.model.specs.Records.{Rec, doWord, link, hold, goIf, goTo, goHeld, stop, unknown, Group, one, two, past, Grouping, numbered, put, recordsFrom, recordNumbers, recordsNumbers}
 use Rattle.places.specs.Table.{placeIn, placesIn}
 
@@ -123,11 +124,6 @@ module _ (lay : Grouping) (places : List ℕ) (count i at : ℕ) (f : Place → 
       rw e (sym (append-nil (numbersOf r (3 * at))) ∙ (rw d at er))
 
 -- the records depend on the first record of each place, and are as many as are needed
-put-length : (f : Place → ℕ) (g : Group Place) (rest : List (Rec ℕ)) → length (put f g rest) ≡ past g (length rest)
-unfolding put past
-put-length f (one r) rest = refl
-put-length f (two r s) rest = refl
-
 module _ (lay : Grouping) where
   pub records-same : {f h : Place → ℕ} (ps : List Place) → ((x : Place) → f x ≡ h x) → recordsFrom lay f ps ≡ recordsFrom lay h ps
   records-same ps e = ap (λ (k : Place → ℕ). recordsFrom lay k ps) (fun-ext e)

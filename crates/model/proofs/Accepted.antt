@@ -61,7 +61,7 @@ entries-aligned base size k (e ∷ es) l h = go (badEntry base size e) refl h (e
     go true q i ih = absurd (omega arith)
     go false q i ih = (good-aligned base size e (l .0) q, ih i)
 
-length-rows : (lay : Grouping) (f : ℕ) (ps : List Place) → length (rowsFrom lay f ps) ≡ length ps
+pub length-rows : (lay : Grouping) (f : ℕ) (ps : List Place) → length (rowsFrom lay f ps) ≡ length ps
 unfolding rowsFrom
 length-rows lay f [] = refl
 length-rows lay f (y ∷ ys) = ap suc (length-rows lay (past (lay y ys) f) ys)
@@ -75,6 +75,8 @@ module _ (image : List ℕ) (base : ℕ) (entryList : List ℕ) (placesLength re
     pub ps : List Place
     pub made : placesOf image base (placeRoom placesLength) (numbersIn entryList) ≡ table ps
     pub good : firstBad base (length image) 0 (numbersIn entryList) ≡ 0
+    pub place-count : length ps ≡ P
+    pub record-count : length (recordsOf (inFull image base) ps) ≡ R
     pub place-room : 16 * P ≤ placesLength
     pub record-room : 12 * R ≤ recordsLength
     pub table-bytes : take (16 * P) (h .places) ≡ bytesOf (tableNumbers (rowsOf (inFull image base) ps))
@@ -110,6 +112,8 @@ module _ (image : List ℕ) (base : ℕ) (entryList : List ℕ) (placesLength re
         ps = ps;
         made = q;
         good = g;
+        place-count = a;
+        record-count = b;
         place-room = omega (arith, places-fit image base (placeRoom placesLength) (numbersIn entryList) ps q);
         record-room = omega arith;
         table-bytes = front (tableNumbers (rowsFrom (inFull image base) 0 ps)) placesLength (16 * P)

@@ -4,12 +4,14 @@ use Rattle.model.specs.Walk.{grow, grown, tested, handle, walk, placesOf
 use Rattle.model.specs.Records.{numbersIn, rowAt, rowsIn, recordOf, recordAt, recordsIn, biccGroup, groupOf, heldGroupOf, groupAt, heldGroupAt, group, past, numbered, put, tableNumbers, recordNumbers, recordsNumbers, first, rowsFrom, recordsFrom, rowsOf, recordsOf}
 use Rattle.model.specs.Places.{kindOf, nextOf, placeAt, samePlace, member, whichOf, biccNames, returnNames, names, namesAt, unimpIn, unimpBehind, followers, idleBicc, mayBeHeld, mayBeHeldAt, allowed, plains}
 use Rattle.numbers.proofs.Choice.{both}
-use Rattle.numbers.specs.Number.{plus, minus, signed, numberAt, bytesOf, numbersOf, upTo}
+use Rattle.numbers.specs.Number.{plus, minus, signed, numberAt, putNumber, bytesOf, numbersOf, upTo}
 use Rattle.words.specs.Reader.{bits, bitSet, operandOf, format0Of, format2Of, format3Of, setFrom, registerStrays, rdyStrays, wryStrays, unusedSet, strictly, byFormat, instructionOf, isUnimp}
 use Rattle.words.specs.Conditions.{rows, bitAt, holdsOf, bitOf, nzvcOf}
+use Rattle.machine.specs.Ends.{endingFrom}
 use Rattle.effects.proofs.Opened.{machine-open, windows-open}
-use Rattle.model.specs.Cases.{over, start, shown, product, endOf, ended, newEnded, stepAt, cases, noCase, Row, bytesBack, given, answered, listedAt, listed, entriesTold, told, begins, beginsWithY, anyWindows, oldCut, oldTold, newCut, newTold, yTold, windowed, windowsTold, fileTold}
-use Rattle.model.specs.Cores.{shownOf, begunWith, oldMark, oldShown, naming, newMark, newShown, goesBy, newByHeld, newTrailAt}
+use Rattle.model.specs.Cases.{over, start, shown, product, endOf, ended, newEnded, stepAt, cases, noCase, Row, bytesBack, given, answered, listedAt, listed, entriesTold, told, begins, beginsWithY, anyWindows, nestedAt, anyState, each, worked, touched, moved, edge, lastBytes, stopsWith, newBeginsEnd, entriesWhole, wholeTold, whole, oldCloses, newCloses, oldCut, oldTold, newCut, newTold, yTold, windowed, windowsTold, fileTold}
+use Rattle.model.specs.Trails.{shownOf, reached}
+use Rattle.model.specs.Cores.{begunWith, oldMark, naming, newMark, goesBy, newByHeld, newTrailAt}
 use Rattle.model.specs.NewCore.{following, fit, doesWord, holds, chooses, seek, lost, goes, stops, does, newNext, begunAt, newBegun}
 use Rattle.model.specs.Run.{step, run, zeroed}
 use Rattle.model.specs.StateBytes.{fileIn, machineIn, oldBytes, oldBegins, newBytes, newAfter, newBegins}
@@ -51,12 +53,12 @@ each-row (r ∷ rs) e (suc i) h = each-row rs (both (sameList (r .got) (r .want)
 -- ---------------------------------------------------------------- the definitions, opened layer by layer
 -- numbers, and the words that they read as
 words-open : Unit {0}
-unfolding plus minus signed numberAt bytesOf numbersOf upTo bits bitSet operandOf format0Of format2Of format3Of setFrom registerStrays rdyStrays wryStrays unusedSet strictly byFormat instructionOf isUnimp rows bitAt holdsOf bitOf nzvcOf
+unfolding plus minus signed numberAt putNumber bytesOf numbersOf upTo bits bitSet operandOf format0Of format2Of format3Of setFrom registerStrays rdyStrays wryStrays unusedSet strictly byFormat instructionOf isUnimp rows bitAt holdsOf bitOf nzvcOf
 words-open = tt
 
 -- the old core
 old-open : Unit {0}
-unfolding step run inImage wordIn transferOf target follows branches jumps executes fetches oldNext oldBegun
+unfolding endingFrom step run inImage wordIn transferOf target follows branches jumps executes fetches oldNext oldBegun
 old-open = tt
 
 -- places, and the walk that finds them
@@ -76,12 +78,12 @@ new-open = tt
 
 -- trails
 trails-open : Unit {0}
-unfolding shownOf begunWith oldMark oldShown naming newMark newShown goesBy newByHeld newTrailAt
+unfolding shownOf reached begunWith oldMark naming newMark goesBy newByHeld newTrailAt
 trails-open = tt
 
 -- what a row shows
 rows-open : Unit {0}
-unfolding cases newEnded stepAt bytesBack given answered listedAt listed endOf entriesTold told begins beginsWithY anyWindows oldCut oldTold newCut newTold yTold windowed windowsTold fileTold over start shown product ended
+unfolding cases newEnded stepAt bytesBack given answered listedAt listed endOf entriesTold told begins beginsWithY anyWindows nestedAt anyState each worked touched moved edge lastBytes stopsWith newBeginsEnd entriesWhole wholeTold whole oldCloses newCloses oldCut oldTold newCut newTold yTold windowed windowsTold fileTold over start shown product ended
 rows-open = tt
 
 pub cases-hold : (i : ℕ) → i < length cases → getD cases i noCase .got ≡ getD cases i noCase .want

@@ -12,8 +12,8 @@ use Rattle.effects.specs.Effect.{Machine}
 use Rattle.model.specs.Run.{step}
 use Rattle.model.specs.OldCore.{Old, old, follows, oldNext}
 use Rattle.model.specs.Places.{plain, placeAt, member}
-use Rattle.model.specs.Trails.{Core, Trail, cut, spent, shut, at, trail, Entry, entry, entries, closing, opening, lastAt, later, gaps, OneOrTwo, Unspent}
-use Rattle.model.specs.Cores.{shownOf, begunWith, oldMark, oldOver}
+use Rattle.model.specs.Trails.{shownOf, Core, Trail, cut, spent, shut, at, trail, Entry, entry, entries, closing, opening, lastAt, later, gaps, OneOrTwo, Unspent}
+use Rattle.model.specs.Cores.{begunWith, oldMark, oldOver}
 use Rattle.model.proofs.Follows.{Follower, Meet}
 use Rattle.model.proofs.Simulation.{Same, both-cut, both-shut, both-at, left-strays, right-strays, both-stray, sim}
 
@@ -173,7 +173,7 @@ module _ (image : List ℕ) (base db : ℕ) {S : Type 0} {c : Core S} (F : Follo
   first-entry zero k a m lf lk h = absurd (omega arith)
   first-entry (suc f) zero a m lf lk h = absurd (omega arith)
   first-entry (suc f) (suc k) a m lf lk h =
-      (trail c f k 1 (step (c .next) (live (F .to (plain a) 0 m))), rw (F .marks (plain a) 0 m h, F .shows (plain a) 0 m))
+      (trail c f k 1 (step (c .next) (live (F .to (plain a) 0 m))), rw (F .marks (plain a) 0 m h, F .has (plain a) 0 m))
 
 module _ (image : List ℕ) (base db : ℕ) {S T : Type 0} {c : Core S} {d : Core T} (F : Follower image base db c) (G : Follower image base db d)
     (meet : Meet F G) where

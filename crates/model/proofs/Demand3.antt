@@ -3,7 +3,6 @@ use Prim.Native.Nat.{ℕ, suc, _+_, _-_, _*_, _^_, _≤_, _<_, min}
 use native.Mathlib.Nat.{zero-add}
 use native.Mathlib.Omega.{arith}
 use mathlib.Core.Path.{_≡_, refl, sym, ap, _∙_}
-use mathlib.Core.Logic.{_↔_}
 use mathlib.Core.Bool.{Bool, true, false, false≢true}
 use mathlib.Core.List.{List}
 use mathlib.Core.Option.{none, some}
@@ -25,12 +24,12 @@ use Rattle.model.specs.Walk.{table, placesOf}
 use Rattle.model.specs.Records.{inFull, first, rowsOf, recordsOf, rowsIn, recordsIn, numbersIn, tableNumbers, recordsNumbers}
 use Rattle.model.specs.NewCore.{New, new, seek, begunAt, newBegun}
 use Rattle.model.specs.Translation.{Handed, translation, placeRoom}
-use Rattle.model.specs.Trails.{Core, Trail, at, trail, entry, entries, closing, opening, Unspent, stood}
-use Rattle.model.specs.Cores.{wholeFile, shownOf, Start, startMachine, oldOver, newOver, oldBegin, newBegin, stepsFor, trailOf, newTrailAt}
+use Rattle.model.specs.Trails.{wholeFile, shownOf, Core, Trail, at, trail, entry, entries, closing, opening, later, Unspent, reached, stood, landed}
+use Rattle.model.specs.Cores.{Start, startMachine, oldOver, newOver, oldBegin, newBegin, stepsFor, trailOf, newTrailAt}
 use Rattle.model.specs.Demand3.{Placed, Begins, Complete, Strays, Equal, Claim, Holds, Demand3}
 use Rattle.model.proofs.Shown.{whole-length, begun-held, begun-shows, begun-again, get-other}
 use Rattle.model.proofs.Hop.{Over}
-use Rattle.model.proofs.Trails.{steady-on, Cut, cuts, run-suc, traced-so, Ended, ends-so, closes-so}
+use Rattle.model.proofs.Trails.{steady-on, Cut, cuts, run-suc, traced-so, as-many-so, Ended, ends-so, closes-so}
 use Rattle.model.proofs.Follows.{Closed, Follower, Meet}
 use Rattle.model.proofs.OldSide.{old-over, oldFollower}
 use Rattle.model.proofs.Groups.{sought, not-sought}
@@ -90,6 +89,10 @@ complete c over k s u =
     let w : Cut c k (trail c (stepsFor (suc k)) k 0 (live s)) (trailOf c (suc k) (live s)) = cuts c (stepsFor (suc k)) k 0 (live s) (rw q u) in
     record {
       traced = traced-so c (stepsFor k) k 0 (live s) (live s) refl;
+      as-many = λ n. let f = stepsFor k + suc n in
+          let i : reached (0 + n) (later (trail c f k 0 (live s))) ≡ min (stood c n (live s) + landed c (run (c .next) n (live s))) k =
+          as-many-so c n f k 0 (live s) (omega arith) in
+          rw (zero-add, steady-on c (stepsFor k) f k 0 (live s) (omega arith) u) at i;
       unspent = u;
       steady = λ f l. steady-on c (stepsFor k) f k 0 (live s) l u;
       full-cut = cuts c (stepsFor k) k 0 (live s) u .filled;
@@ -319,25 +322,3 @@ demand3 image base entryList placesLength recordsLength placeCount recordCount i
     let L = laid image base entryList placesLength recordsLength placeCount recordCount ib eb handed eh answered places records et er in
     from-begin image base db (numbersIn entryList) (placeRoom placesLength) (L .ps) records places (L .made) (L .closed) (L .few) (L .table-read)
     (L .records-read) k lk x y hx hy
-
--- demand 2: "The places .. of an accepted image are those that 01's rules make, and all of them."
-pub all-of-them : (image : List ℕ) (base : ℕ) (entryList : List ℕ) (placesLength recordsLength placeCount recordCount : ℕ) → Below 256 entryList
-    → translation image base entryList placesLength recordsLength .answer ≡ Accepted placeCount recordCount
-    → (ps : List Place) × ((placesOf image base (placeRoom placesLength) (numbersIn entryList) ≡ table ps)
-    × ((x : Place) → (member ps x ≡ true) ↔ Makes image base (numbersIn entryList) x))
-all-of-them image base entryList placesLength recordsLength placeCount recordCount eb e =
-    let es = numbersIn entryList in
-    let tk : Took image base entryList placesLength recordsLength placeCount recordCount
-    (translation image base entryList placesLength recordsLength) =
-    took image base entryList placesLength recordsLength placeCount recordCount e in
-    let C : Closed image base (tk .ps) =
-    places-closed image base (placeRoom placesLength) es (tk .ps) (entries-aligned base (length image) 0 es (numbers-lt entryList eb) (tk .good)) (tk .made) in (
-      tk .ps,
-      (
-        tk .made,
-        λ x. (
-          member-made image base (placeRoom placesLength) es (tk .ps) (tk .made) x,
-          made-member image base (placeRoom placesLength) es (tk .ps) (tk .made) C x,
-        ),
-      ),
-    )

@@ -13,8 +13,7 @@ use Rattle.model.specs.declared.Place.the-variants.{Pair, Held}
 use Rattle.model.specs.OldCore.{inImage, wordIn}
 use Rattle.model.specs.Places.{plain, placeAt, member, followers, allowed}
 use Rattle.model.specs.NewCore.{lost}
-use Rattle.model.specs.Trails.{Core}
-use Rattle.model.specs.Cores.{shownOf}
+use Rattle.model.specs.Trails.{shownOf, Core}
 use Rattle.model.proofs.Members.{AllIn, AllP}
 use Rattle.model.proofs.Hop.{Left, onward, ends, lands, Hop, Over}
 use Rattle.model.proofs.Middle.{Out, on, over, by, out}
@@ -39,7 +38,7 @@ module _ (image : List ℕ) (base db : ℕ) {S : Type 0} where
   leftBy to goes (over e) = ends e
   leftBy to goes (by a m) = pick (goes a) (onward (to (plain a) a m)) (lands a (shownOf m) (lost (inImage base (length image) a) a))
 
-  -- the core c follows the places ps: at each it is in the state that `to` says, marks the place's address, shows the machine, and is left after one
+  -- the core c follows the places ps: at each it is in the state that `to` says, marks the place's address, has the machine, and is left after one
   -- step or two, no entry between them, as the place's turn says
   pub record Follower (c : Core S) : Type 0 where
     pub ps : List Place
@@ -47,7 +46,7 @@ module _ (image : List ℕ) (base db : ℕ) {S : Type 0} where
     pub goes : ℕ → Bool
     pub closed : Closed image base ps
     pub over : (s : S) → Over c (c .next s)
-    pub shows : (pl : Place) (h : ℕ) (m : Machine) → c .shown (to pl h m) ≡ shownOf m
+    pub has : (pl : Place) (h : ℕ) (m : Machine) → c .machineOf (to pl h m) ≡ m
     pub marks : (pl : Place) (h : ℕ) (m : Machine) → member ps pl ≡ true → c .mark (to pl h m) ≡ some (placeAt pl)
     pub hops : (pl : Place) (h : ℕ) (m : Machine) → member ps pl ≡ true → Hop c (to pl h m) (leftBy to goes (out image base db pl h m))
     -- where it goes on, it is at the plain place there, which need not be in the list (the old core knows no list): outside the image that ends

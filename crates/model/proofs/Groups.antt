@@ -36,6 +36,11 @@ stands-on φ (one r) (two a b) rest f h = h
 stands-on φ (two r s) (one a) rest f h = h
 stands-on φ (two r s) (two a b) rest f h = h
 
+pub put-length : (φ : Place → ℕ) (g : Group Place) (rest : List (Rec ℕ)) → length (put φ g rest) ≡ past g (length rest)
+unfolding put past
+put-length φ (one r) rest = refl
+put-length φ (two r s) rest = refl
+
 beyond : (g : Group Place) (f : ℕ) → f < past g f
 unfolding past
 beyond (one r) f = omega arith

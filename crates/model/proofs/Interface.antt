@@ -14,39 +14,36 @@ use Rattle.numbers.proofs.Bounds.{plus-lt}
 use Rattle.words.specs.Conditions.{bitOf}
 use Rattle.machine.specs.Ends.{Ending, ending, go, State, live}
 use Rattle.effects.specs.Effect.{Machine}
-use Rattle.model.specs.Run.{dataOf}
-use Rattle.model.specs.OldCore.{Old, old, inImage, oldNext, oldBegun}
+use Rattle.model.specs.Run.{run, dataOf}
+use Rattle.model.specs.OldCore.{Old, old, oldMachine, inImage, oldNext, oldBegun}
 use Rattle.model.specs.Places.{plain}
 use Rattle.model.specs.Records.{inFull, first, rowsIn}
-use Rattle.model.specs.NewCore.{New, new, newNext, seek, begunAt, newBegun}
+use Rattle.model.specs.NewCore.{New, new, newMachine, newNext, seek, begunAt, newBegun}
 use Rattle.model.specs.declared.Answer.{Answer}
 use Rattle.model.specs.declared.Answer.the-variants.{Accepted, ImageLength, Base, Entry, Forbidden, NoRoom, RecordsShort}
 use Rattle.model.specs.Translation.{answerNumbers, Handed, translation, placeRoom, Back}
-use Rattle.model.specs.Trails.{Core, Unspent}
-use Rattle.model.specs.Cores.{oldMark, oldShown, oldOver, newMark, newShown, newByHeld, newOver, oldBegin, newBegin, stepsFor, trailOf}
+use Rattle.model.specs.Trails.{shownOf, Core, shownAt, Unspent}
+use Rattle.model.specs.Cores.{oldMark, oldOver, newMark, newByHeld, newOver, oldBegin, newBegin, stepsFor, trailOf}
 use Rattle.model.specs.Demand3.{Placed, Complete, Strays, Holds, Demand3}
-use Rattle.model.specs.StateBytes.{oldBehind, newBehind, machineIn, oldIn, oldBytes, newIn, newBytes, After, oldAfter, newAfter, oldBegins, oldRuns, newBegins, newRuns}
-use Rattle.model.specs.Interface.{Bytes, bytes, answered, called, bytesShown, oldBytesMark, oldCalls, newBytesMark, newBytesByHeld, newCalls, oldStarted, newStarted, startOf, Interface}
+use Rattle.model.specs.StateBytes.{oldBehind, newBehind, machineIn, oldIn, oldBytes, newIn, newBytes, After, oldAfter, newAfter, oldBegins, oldRuns, newBegins, newRuns, OldRunsAdd, NewRunsAdd}
+use Rattle.model.specs.Interface.{Bytes, bytes, answered, called, bytesMachine, oldBytesMark, oldCalls, newBytesMark, newBytesByHeld, newCalls, oldStarted, newStarted, startOf, ReadOff, Interface}
 use Rattle.model.proofs.Hop.{Over}
 use Rattle.model.proofs.Bounds.{SoundOld, SoundNew, found-lt}
 use Rattle.model.proofs.RoundTrip.{data-back, machine-sound}
-use Rattle.model.proofs.Shown.{shown-sound, start-begun}
-use Rattle.model.proofs.Related.{Beside, Related, trail-same, strays-on, flipped, flip-beside, holds-on}
+use Rattle.model.proofs.Shown.{shown-sound, shown-again, start-begun}
+use Rattle.model.proofs.Related.{Beside, Related, run-beside, trail-same, strays-on, flipped, flip-beside, holds-on}
 use Rattle.model.proofs.Coded.{runs-add, Holding, called-step}
 use Rattle.model.proofs.Calls.{oldArea, old-coded, old-sound, old-pc, old-annul, old-shows, newArea, new-coded, new-sound, new-record, new-held, new-shows}
 use Rattle.model.proofs.Demand3.{complete, Laid, laid, placed-lt, finds, demand3}
 
 -- ---------------------------------------------------------------- a run of m and then one of n is a run of m + n
-pub old-runs-add : (image : List ℕ) (base db m n : ℕ) (bs l : List ℕ) → Below 256 bs → Below 256 l
-    → oldRuns image base db n (oldRuns image base db m bs l .state) (oldRuns image base db m bs l .area) ≡ oldRuns image base db (m + n) bs l
-unfolding oldRuns
+pub old-runs-add : OldRunsAdd
+unfolding OldRunsAdd oldRuns
 old-runs-add image base db m n bs l b d =
     runs-add (oldNext image base db) oldAfter oldIn oldArea SoundOld (old-coded image base db) m n bs l (old-sound bs l b d)
 
-pub new-runs-add : (records places : List ℕ) (base size db m n : ℕ) (bs l : List ℕ) → Below 256 records → Below 256 places → Below 256 bs → Below 256 l
-    → newRuns records places base size db n (newRuns records places base size db m bs l .state) (newRuns records places base size db m bs l .area)
-    ≡ newRuns records places base size db (m + n) bs l
-unfolding newRuns
+pub new-runs-add : NewRunsAdd
+unfolding NewRunsAdd newRuns
 new-runs-add records places base size db m n bs l br bp b d =
     runs-add (newNext records places base size db) newAfter newIn newArea SoundNew (new-coded records places base size db br bp) m n bs l (new-sound bs l b d)
 
@@ -68,11 +65,16 @@ module _ (image : List ℕ) (base db : ℕ) (l : List ℕ) where
       go true = refl
       go false = refl
 
-  old-shown-same : (b : Bytes) (s : Old) → OldHolds b s → bytesShown oldBehind b ≡ oldShown s
-  unfolding bytesShown oldShown oldAfter
-  old-shown-same b (old m pc npc annul) h =
+  -- the bytes hold what is shown of the state, and so show it
+  pub old-holds : (b : Bytes) (s : Old) → OldHolds b s → bytesMachine oldBehind b ≡ shownOf (oldMachine s)
+  unfolding bytesMachine oldAfter
+  old-holds b (old m pc npc annul) h =
       let n = length (dataOf l) in
       rw (h .0, data-back l (m .area) (h .1 .0 .sized) .0, old-shows n m pc npc annul 0 0 (h .1, refl), shown-sound n m (h .1 .0) (data-few l))
+
+  old-shown-same : (b : Bytes) (s : Old) → OldHolds b s → shownOf (bytesMachine oldBehind b) ≡ shownOf (oldMachine s)
+  old-shown-same b (old m pc npc annul) h =
+      ap shownOf (old-holds b (old m pc npc annul) h) ∙ shown-again (length (dataOf l)) m (h .1 .0) (data-few l)
 
   pub old-related : Related (oldCalls image base db) (oldOver image base db) OldHolds
   unfolding oldRuns
@@ -114,11 +116,14 @@ module _ (records places : List ℕ) (base size db : ℕ) (br : Below 256 record
       let n = length (dataOf l) in
       rw (h .0, new-record n m r g 0 0 (h .1, refl), new-held n m r g 0 0 (h .1, refl))
 
-  new-shown-same : (b : Bytes) (s : New) → NewHolds b s → bytesShown newBehind b ≡ newShown s
-  unfolding bytesShown newShown newAfter
-  new-shown-same b (new m r g) h =
+  pub new-holds : (b : Bytes) (s : New) → NewHolds b s → bytesMachine newBehind b ≡ shownOf (newMachine s)
+  unfolding bytesMachine newAfter
+  new-holds b (new m r g) h =
       let n = length (dataOf l) in
       rw (h .0, data-back l (m .area) (h .1 .0 .sized) .0, new-shows n m r g 0 0 (h .1, refl), shown-sound n m (h .1 .0) (data-few l))
+
+  new-shown-same : (b : Bytes) (s : New) → NewHolds b s → shownOf (bytesMachine newBehind b) ≡ shownOf (newMachine s)
+  new-shown-same b (new m r g) h = ap shownOf (new-holds b (new m r g) h) ∙ shown-again (length (dataOf l)) m (h .1 .0) (data-few l)
 
   pub new-related : Related (newCalls records places base size db) (newOver records places base size db) NewHolds
   unfolding newRuns
@@ -158,6 +163,14 @@ over-answered c (ending (suc n) v) b = omega arith
 over-called : (c : Core Bytes) (x : After) → Over c (called x)
 unfolding called
 over-called c x = over-answered c (x .ended) (bytes (x .state) (x .area))
+
+-- so what is shown of bytes, wherever calls come to, is what stands in them
+as-it-stands : {S : Type 0} (c : Core Bytes) (d : Core S) (R : Bytes → S → Type 0) → Related c d R
+    → ((b : Bytes) (s : S) → R b s → c .machineOf b ≡ shownAt d s) → (x : State Bytes) (y : State S) → Beside R x y
+    → (count : ℕ) (b : Bytes) → run (c .next) count x ≡ live b → shownAt c b ≡ c .machineOf b
+as-it-stands c d R Q holds x y r count b e =
+    let q : Beside R (live b) (run (d .next) count y) = rw e at (run-beside c d R Q count x y r) in
+    Q .shows b (q .0) (q .1 .1) ∙ sym (holds b (q .0) (q .1 .1))
 
 complete-at : (c : Core Bytes) → ((b : Bytes) → Over c (c .next b)) → (k : ℕ) (x : State Bytes) (b : Bytes) → x ≡ live b → Unspent (trailOf c k x) → Complete c k x
 complete-at c over k x b e u = subst (Complete c k) (sym e) (complete c over k b (subst (λ (z : State Bytes). Unspent (trailOf c k z)) e u))
@@ -235,6 +248,21 @@ module _ (image : List ℕ) (base : ℕ) (entryList : List ℕ) (cap : ℕ) (pla
         (subst Unspent (sym new-trails) (H .new-complete .unspent)))
         strays-same H
 
+    pub old-read : ReadOff oldBehind k OC (oldStarted p b) (oldOver image base db) (oldBegin (startOf oldBehind p b))
+    old-read =
+        record {
+          same-trail = old-trails;
+          as-it-stands = as-it-stands OC (oldOver image base db) (OldHolds image base db (b .area)) (old-related image base db (b .area))
+              (old-holds image base db (b .area)) (oldStarted p b) (oldBegin (startOf oldBehind p b)) (old-beside image base db (b .area) p (b .state) bb bd lp);
+        }
+
+    pub new-read : ReadOff newBehind k NC started N begun
+    new-read =
+        record {
+          same-trail = new-trails;
+          as-it-stands = as-it-stands NC N NH related (new-holds records places base size db (L .records-bytes) (L .places-bytes) (c .area)) started begun beside;
+        }
+
 -- number 0 is acceptance, with the two counts beside it
 accepted-back : (a : Answer) (P R : ℕ) → answerNumbers a ≡ 0 ∷ P ∷ R ∷ [] → a ≡ Accepted P R
 unfolding answerNumbers
@@ -255,7 +283,10 @@ interface image base entryList placesLength recordsLength placeCount recordCount
     let et′ : places ≡ take (16 * placeCount) (handed .places) = et ∙ ap (λ (x : Back). take (16 * placeCount) (x .places)) call in
     let er′ : records ≡ take (12 * recordCount) (handed .records) = er ∙ ap (λ (x : Back). take (12 * recordCount) (x .records)) call in
     let L = laid image base entryList placesLength recordsLength placeCount recordCount ib eb handed refl accepted places records et′ er′ in
-    on-bytes image base entryList (placeRoom placesLength) places records L db b c bb bd cb cd p q
-    (placed-lt image base entryList (placeRoom placesLength) places records L p hp) hq k
-    (demand3 image base entryList placesLength recordsLength placeCount recordCount ib eb handed refl accepted (startOf oldBehind p b) (startOf newBehind q c) hp hq
-    db k lk places records et′ er′)
+    let lp = placed-lt image base entryList (placeRoom placesLength) places records L p hp in (
+      on-bytes image base entryList (placeRoom placesLength) places records L db b c bb bd cb cd p q lp hq k
+          (demand3 image base entryList placesLength recordsLength placeCount recordCount ib eb handed refl accepted (startOf oldBehind p b) (startOf newBehind q c) hp hq
+          db k lk places records et′ er′),
+      old-read image base entryList (placeRoom placesLength) places records L db b c bb bd cb cd p q lp hq k,
+      new-read image base entryList (placeRoom placesLength) places records L db b c bb bd cb cd p q lp hq k,
+    )

@@ -1,6 +1,6 @@
 -- Lists of places: the same place, membership, what holds of every place, no place twice.
 use Prim.Native.Nat.{ℕ, zero, suc}
-use mathlib.Core.Path.{_≡_, refl, sym, subst}
+use mathlib.Core.Path.{_≡_, refl, sym, ap, _∙_, subst}
 use mathlib.Core.Bool.{Bool, true, false, _&&_, false≢true}
 use mathlib.Core.List.{List, [], _∷_, _++_}
 use mathlib.Core.Option.{some}
@@ -114,3 +114,42 @@ pub all-get : (P : Place → Type 0) (xs : List Place) (i : ℕ) (x : Place) →
 all-get P [] i x a e = let z : _≡_ {A = ℕ} 0 1 = cc in absurd (omega arith)
 all-get P (y ∷ ys) zero x a e = let z : y ≡ x = cc in subst P z (a .0)
 all-get P (y ∷ ys) (suc i) x a e = all-get P ys i x (a .1) e
+
+pub get-mem : (xs : List Place) (i : ℕ) (x : Place) → getElem? xs i ≡ some x → member xs x ≡ true
+get-mem xs i x e = all-get (λ y. member xs y ≡ true) xs i x (all-from (λ y. member xs y ≡ true) xs (λ y h. h)) e
+
+pub mem-get : (xs : List Place) (x : Place) → member xs x ≡ true → (i : ℕ) × (getElem? xs i ≡ some x)
+mem-get [] x h = no-member x h
+mem-get (y ∷ ys) x h = mem-cases y ys x h (λ e. (0, ap some (same-eq y x e))) (λ e i. let r = mem-get ys x i in (suc (r .0), r .1))
+
+-- ---------------------------------------------------------------- no place twice
+abbrev pub NoTwice : List Place → Type 0
+NoTwice [] = Unit {0}
+NoTwice (x ∷ xs) = (member xs x ≡ false) × NoTwice xs
+
+other-way : (x y : Place) → samePlace x y ≡ false → samePlace y x ≡ false
+other-way x y e = go (samePlace y x) refl
+  where
+    go : (b : Bool) → samePlace y x ≡ b → b ≡ false
+    go true i = absurd (false≢true (sym e ∙ subst (λ (z : Place). samePlace z y ≡ true) (same-eq y x i) (same-self y)))
+    go false i = refl
+
+not-last : (ys : List Place) (x y : Place) → member ys y ≡ false → samePlace x y ≡ false → member (ys ++ (x ∷ [])) y ≡ false
+unfolding member
+not-last [] x y h e = rw e
+not-last (z ∷ zs) x y h e = let t = not-mem z zs y h in rw (t .0) (not-last zs x y (t .1) e)
+
+-- one that was not in the list is added behind it
+pub no-twice-last : (ps : List Place) (x : Place) → NoTwice ps → member ps x ≡ false → NoTwice (ps ++ (x ∷ []))
+unfolding member
+no-twice-last [] x n h = (refl, tt)
+no-twice-last (y ∷ ys) x n h =
+    let t = not-mem y ys x h in
+    (not-last ys x y (n .0) (other-way y x (t .0)), no-twice-last ys x (n .1) (t .1))
+
+pub no-twice-at : (ps : List Place) → NoTwice ps → (x : Place) (i j : ℕ) → getElem? ps i ≡ some x → getElem? ps j ≡ some x → i ≡ j
+no-twice-at [] n x i j e f = let z : _≡_ {A = ℕ} 0 1 = cc in absurd (omega arith)
+no-twice-at (y ∷ ys) n x zero zero e f = refl
+no-twice-at (y ∷ ys) n x zero (suc j) e f = let z : y ≡ x = cc in absurd (false≢true (sym (n .0) ∙ rw z (get-mem ys j x f)))
+no-twice-at (y ∷ ys) n x (suc i) zero e f = let z : y ≡ x = cc in absurd (false≢true (sym (n .0) ∙ rw z (get-mem ys i x e)))
+no-twice-at (y ∷ ys) n x (suc i) (suc j) e f = ap suc (no-twice-at ys (n .1) x i j e f)

@@ -21,8 +21,8 @@ use Rattle.model.specs.OldCore.{inImage, wordIn, Transfer, illegal, stra
 use Rattle.model.specs.Places.{plain, placeAt, member, Which, never, always, depends, whichOf, idleBicc, mayBeHeld, mayBeHeldAt, allowed}
 use Rattle.model.specs.Records.{Rec, doWord, link, hold, goIf, goTo, goHeld, stop, Group, one, two, biccGroup, groupOf, heldGroupOf, groupAt, heldGroupAt, group, numbered, inFull, first, rowsOf, recordsOf, rowsIn, recordsIn}
 use Rattle.model.specs.NewCore.{New, new, following, fit, doesWord, holds, chooses, seek, lost, goes, stops, does, newNext}
-use Rattle.model.specs.Trails.{Core}
-use Rattle.model.specs.Cores.{shownOf, naming, newMark, newShown, goesBy, newByHeld, newOver}
+use Rattle.model.specs.Trails.{shownOf, Core}
+use Rattle.model.specs.Cores.{naming, newMark, goesBy, newByHeld, newOver}
 use Rattle.words.specs.declared.Operand.{Operand}
 use Rattle.model.proofs.Transfers.{trapEnd, trap-halts, idle-does, small-condition}
 use Rattle.model.proofs.Hop.{Left, onward, ends, lands, leaves, left, Hop, once, twice}
@@ -65,7 +65,7 @@ module _ (image : List ℕ) (base db : ℕ) (ps : List Place) (records places : 
   -- the record at hand tells what is left
   at-hand : (y : Rec ℕ) (m : Machine) (f h : ℕ) → getElem? (recordsIn records) f ≡ some y
       → left newCore (new m f h) ≡ leaves (goesBy (some y) h) (shownOf m) (D y m f h)
-  unfolding newByHeld newShown newNext
+  unfolding newByHeld newNext
   at-hand y m f h e = rw e
 
   module _ (f p n h : ℕ) (m : Machine) (low : suc f < 2 ^ 32) where
@@ -220,9 +220,8 @@ module _ (image : List ℕ) (base db : ℕ) (ps : List Place) (records places : 
       → Hop (newCore image base db ps records places) (to pl h m) (leftBy image base db to listed (out image base db pl h m))
   new-hops pl h m i = subst (Hop (newCore image base db ps records places) (to pl h m)) (new-left (out image base db pl h m)) (hop pl h m i)
 
-  pub new-shown : (pl : Place) (h : ℕ) (m : Machine) → newCore image base db ps records places .shown (to pl h m) ≡ shownOf m
-  unfolding newShown
-  new-shown pl h m = refl
+  pub new-has : (pl : Place) (h : ℕ) (m : Machine) → newCore image base db ps records places .machineOf (to pl h m) ≡ m
+  new-has pl h m = refl
 
   pub new-mark-plain : (a h : ℕ) (m : Machine) → listed a ≡ true → newCore image base db ps records places .mark (to (plain a) h m) ≡ some a
   unfolding placeAt
@@ -239,7 +238,7 @@ module _ (image : List ℕ) (base db : ℕ) (ps : List Place) (records places : 
         goes = listed;
         closed = C;
         over = new-over records places base (length image) db;
-        shows = new-shown;
+        has = new-has;
         marks = new-mark image base db ps records places er ec;
         hops = new-hops;
         marks-on = λ a m q. new-mark-plain a a m q;

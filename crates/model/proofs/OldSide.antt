@@ -19,9 +19,10 @@ use Rattle.machine.proofs.Ends.{EndsWell}
 use Rattle.effects.proofs.Effects.{effects-end}
 use Rattle.model.specs.declared.Place.{Place}
 use Rattle.model.specs.declared.Place.the-variants.{Pair, Held}
-use Rattle.model.specs.OldCore.{Old, old, wordIn, Transfer, illegal, straight, trap, call, bicc, jmpl, transferOf, target, follows, branches, jumps, executes, fetches, oldNext}
+use Rattle.model.specs.OldCore.{Old, old, oldMachine, wordIn, Transfer, illegal, straight, trap, call, bicc, jmpl, transferOf, target, follows, branches, jumps, executes, fetches, oldNext}
 use Rattle.model.specs.Places.{plain, placeAt, Which, never, always, depends, whichOf, idleBicc, mayBeHeld, mayBeHeldAt, allowed}
-use Rattle.model.specs.Cores.{shownOf, oldMark, oldShown, oldOver}
+use Rattle.model.specs.Trails.{shownOf}
+use Rattle.model.specs.Cores.{oldMark, oldOver}
 use Rattle.model.proofs.Transfers.{holds-never, holds-always, trap-halts}
 use Rattle.model.proofs.Hop.{Left, onward, ends, leaves, left, Hop, once, twice, Over}
 use Rattle.model.proofs.Follows.{Aligned, Closed, leftBy, Follower}
@@ -49,8 +50,8 @@ module _ (image : List ℕ) (base db : ℕ) where
 
   module _ (s : Old) (p n h : ℕ) (m : Machine) where
     -- what is known of the step from s, as what it left
-    step-left : (x : Next Old) → N s ≡ x → left (oldOver image base db) s ≡ leaves none (oldShown s) x
-    step-left x e = ap (leaves none (oldShown s)) e
+    step-left : (x : Next Old) → N s ≡ x → left (oldOver image base db) s ≡ leaves none (shownOf (oldMachine s)) x
+    step-left x e = ap (leaves none (shownOf (oldMachine s))) e
 
     -- the word at n is annulled: the next entry stands one step later
     then-passed : (t : ℕ) → N s ≡ go (old m n t true) → O s (onward (old m t (plus t 4) false))
@@ -136,10 +137,9 @@ module _ (image : List ℕ) (base db : ℕ) where
   old-mark (Pair p n) h m = refl
   old-mark (Held p) h m = refl
 
-  pub old-shown : (pl : Place) (h : ℕ) (m : Machine) → oldOver image base db .shown (toOld pl h m) ≡ shownOf m
-  unfolding oldShown
-  old-shown (Pair p n) h m = refl
-  old-shown (Held p) h m = refl
+  pub old-has : (pl : Place) (h : ℕ) (m : Machine) → oldOver image base db .machineOf (toOld pl h m) ≡ m
+  old-has (Pair p n) h m = refl
+  old-has (Held p) h m = refl
 
   -- -------------------------------------------------------------- the old core ends only with an end above 0
   abbrev OverOld : Next Old → Type 0
@@ -189,7 +189,7 @@ module _ (image : List ℕ) (base db : ℕ) where
         goes = λ a. true;
         closed = C;
         over = old-over;
-        shows = old-shown;
+        has = old-has;
         marks = λ pl h m i. old-mark pl h m;
         hops = λ pl h m i. old-hop pl h m (C .aligned-at pl i) (C .ok pl i);
         marks-on = λ a m q. old-mark-plain a a m;

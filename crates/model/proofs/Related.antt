@@ -8,7 +8,7 @@ use mathlib.Core.Option.{Option, none, some}
 use Rattle.machine.specs.Ends.{ending, Next, go, halt, State, state, live, settle}
 use Rattle.effects.specs.Effect.{Machine}
 use Rattle.model.specs.Run.{step, run}
-use Rattle.model.specs.Trails.{Core, Trail, at, turn, trail, oneIf, counted, stood}
+use Rattle.model.specs.Trails.{Core, shownAt, Trail, at, turn, trail, oneIf, counted, stood}
 use Rattle.model.specs.Cores.{Start, trailOf}
 use Rattle.model.specs.Demand3.{Begins, Complete, Strays, Claim, Holds}
 
@@ -25,7 +25,7 @@ Beside {T = T} R (state s e) y = (t : T) × ((y ≡ state t e) × R s t)
 
 pub record Related {S T : Type 0} (c : Core S) (d : Core T) (R : S → T → Type 0) : Type 0 where
   pub marks : (s : S) (t : T) → R s t → c .mark s ≡ d .mark t
-  pub shows : (s : S) (t : T) → R s t → c .shown s ≡ d .shown t
+  pub shows : (s : S) (t : T) → R s t → shownAt c s ≡ shownAt d t
   pub goes : (s : S) (t : T) → R s t → c .byHeld s ≡ d .byHeld t
   pub steps : (s : S) (t : T) → R s t → Alike R (c .next s) (d .next t)
 
@@ -70,7 +70,7 @@ module _ {S T : Type 0} (c : Core S) (d : Core T) (R : S → T → Type 0) (Q : 
   trail-same (suc f) k gap (state s (ending (suc n) v)) y b = rw (b .1 .0, Q .goes s (b .0) (b .1 .1), Q .shows s (b .0) (b .1 .1))
   trail-same (suc f) k gap (state s (ending zero v)) y b =
       rw (b .1 .0, Q .marks s (b .0) (b .1 .1), Q .shows s (b .0) (b .1 .1))
-      (turn-same f k gap (d .mark (b .0)) (d .shown (b .0)) (step (c .next) (live s)) (step (d .next) (live (b .0)))
+      (turn-same f k gap (d .mark (b .0)) (shownAt d (b .0)) (step (c .next) (live s)) (step (d .next) (live (b .0)))
       (λ k gap. trail-same f k gap (step (c .next) (live s)) (step (d .next) (live (b .0))) (step-beside (live s) (live (b .0)) (b .0, (refl, b .1 .1)))))
 
   -- where one strays, so does the other

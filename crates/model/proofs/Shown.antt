@@ -3,19 +3,20 @@
 use Prim.Native.Nat.{ℕ, zero, suc, _+_, _-_, _≤_, _<_}
 use native.Mathlib.Omega.{arith}
 use native.Mathlib.Numerals.{add-one}
-use mathlib.Core.Path.{_≡_, refl, ap, _∙_}
+use mathlib.Core.Path.{_≡_, refl, sym, ap, _∙_}
 use mathlib.Core.List.{List, [], _∷_}
 use lib.ListN.{length, getD, set}
-use lib.Seq.{take-all, take-take}
+use lib.Seq.{take-all, take-take, ext-getD}
 use Rattle.numbers.specs.Number.{upTo}
 use Rattle.numbers.proofs.Lists.{length-up, get-up, up-list}
 use Rattle.machine.specs.Registers.{fileSize}
-use Rattle.windows.specs.Windows.{laid, Held, comeIn}
+use Rattle.windows.specs.Windows.{nestingOf, laid, Held, comeIn}
 use Rattle.effects.specs.Effect.{Machine, machine}
 use Rattle.effects.proofs.Bounds.{Sound}
-use Rattle.windows.proofs.Ring.{laid-low, laid-length, shown-in, held-in}
+use Rattle.windows.proofs.Ring.{laid-low, laid-free, laid-own, laid-length, laid-nesting, covered, free, Covered, covers, shown-in, held-in}
 use Rattle.model.specs.Run.{zeroed, dataOf}
-use Rattle.model.specs.Cores.{wholeFile, shownOf, begunWith}
+use Rattle.model.specs.Trails.{wholeFile, shownOf}
+use Rattle.model.specs.Cores.{begunWith}
 use Rattle.model.specs.StateBytes.{fileIn}
 use Rattle.model.proofs.RoundTrip.{set-same, length-file}
 
@@ -33,6 +34,27 @@ whole-same l e z = zeroed-shown l e ∙ set-same l z
 pub shown-sound : (n : ℕ) (m : Machine) → Sound n m → n ≤ 65536 → shownOf m ≡ machine (laid (m .registers)) (m .flags) (m .area)
 unfolding shownOf
 shown-sound n m s l = rw (whole-same (m .registers) (s .whole) (s .zero), take-all 65536 (m .area) (omega (arith, s .sized)))
+
+-- laid down once more, a file is the same
+laid-again : (rs : List ℕ) → length rs ≡ fileSize → laid (laid rs) ≡ laid rs
+laid-again rs l = ext-getD 0 (laid (laid rs)) (laid rs) (laid-length (laid rs)) (λ i h. same i (covers (nestingOf rs) i))
+  where
+    same : (i : ℕ) → Covered (nestingOf rs) i → getD (laid (laid rs)) i 0 ≡ getD (laid rs) i 0
+    same i (covered k h e) =
+        rw e (rw (laid-nesting rs) at (laid-own (laid rs) (laid-length rs ∙ l) k h) ∙ laid-low rs (8 + k) (omega arith) ∙ sym (laid-own rs l k h))
+    same i (free f) = laid-free (laid rs) i (λ k h e. f k h (rw (laid-nesting rs) at e))
+
+-- what is shown shows itself
+pub shown-again : (n : ℕ) (m : Machine) → Sound n m → n ≤ 65536 → shownOf (shownOf m) ≡ shownOf m
+unfolding shownOf
+shown-again n m s l =
+    let rs : List ℕ = m .registers in
+    rw (
+      whole-same rs (s .whole) (s .zero),
+      whole-same (laid rs) (laid-length rs ∙ s .whole) (laid-low rs 0 (omega arith) ∙ s .zero),
+      laid-again rs (s .whole),
+      take-take 65536 65536 (m .area) (omega arith),
+    )
 
 pub start-begun : (at : ℕ) (bs : List ℕ) (f : ℕ) (l : List ℕ) → begunWith (machine (fileIn at bs) f l) ≡ machine (comeIn (zeroed (fileIn at bs))) f (dataOf l)
 unfolding begunWith zeroed

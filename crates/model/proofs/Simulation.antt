@@ -16,8 +16,7 @@ use Rattle.model.specs.Run.{step}
 use Rattle.model.specs.OldCore.{inImage, wordIn}
 use Rattle.model.specs.Places.{plain, placeAt, member}
 use Rattle.model.specs.NewCore.{lost}
-use Rattle.model.specs.Trails.{Core, Trail, cut, shut, at, trail}
-use Rattle.model.specs.Cores.{shownOf}
+use Rattle.model.specs.Trails.{shownOf, Core, Trail, cut, shut, at, trail}
 use Rattle.model.proofs.Transfers.{inside-word}
 use Rattle.model.proofs.Hop.{onward, ends, lands, after, Hopped, hopped}
 use Rattle.model.proofs.Middle.{Out, on, over, by, out, OutOk, out-ok}
@@ -65,9 +64,9 @@ module _ (image : List ℕ) (base db : ℕ) {S : Type 0} {c : Core S} (F : Follo
   enters (suc k) (suc zero) i a m o true e q l al = absurd (omega arith)
   enters (suc k) (suc (suc f)) i a m none true e q l al =
       let r = hopped c (F .over) f k i a (F .to (plain a) a m) (ends (ending 2 a)) (F .marks-on a m q) (F .ends-on a m q al e) in
-      (shut (ending 2 a), (r .eq ∙ ap (λ (z : Machine). at i a z (shut (ending 2 a))) (F .shows (plain a) a m), refl))
+      (shut (ending 2 a), (r .eq ∙ ap (λ (z : Machine). at i a (shownOf z) (shut (ending 2 a))) (F .has (plain a) a m), refl))
   enters (suc k) (suc (suc f)) i a m (some w) true e q l al =
-      (trail c (suc f) k 1 (step (c .next) (live (F .to (plain a) a m))), (rw (F .marks-on a m q, F .shows (plain a) a m), tt))
+      (trail c (suc f) k 1 (step (c .next) (live (F .to (plain a) a m))), (rw (F .marks-on a m q, F .has (plain a) a m), tt))
 
 module _ (image : List ℕ) (base db : ℕ) {S T : Type 0} {c : Core S} {d : Core T} (F : Follower image base db c) (G : Follower image base db d)
     (meet : Meet F G) where
@@ -119,7 +118,7 @@ module _ (image : List ℕ) (base db : ℕ) {S T : Type 0} {c : Core S} {d : Cor
       → Same′ lo (trail c (suc (suc f)) (suc k) i (live (F .to pl h m))) (trail d (suc (suc g)) (suc k) j (live (G .to pl h m)))
   joins k f g i j pl h m ih lf lg lo p q x y a b =
       subst₂ (λ (t u : Trail). Same′ lo t u) (sym (a .eq)) (sym (b .eq))
-      (rw (F .shows pl h m, G .shows pl h m) (both-at (placeAt pl) (shownOf m) p q
+      (rw (F .has pl h m, G .has pl h m) (both-at (placeAt pl) (shownOf m) p q
       (onwards k (a .fuel) (b .fuel) (a .steps) (b .steps) ih (omega (arith, a .enough)) (omega (arith, b .enough)) (a .pace) (b .pace)
       (out image base db pl h m) x y)))
 

@@ -15,7 +15,8 @@ use Rattle.effects.proofs.Effects.{effects-end}
 use Rattle.model.specs.OldCore.{inImage}
 use Rattle.model.specs.Records.{Rec, doWord, link, hold, goIf, goTo, goHeld, stop, unknown, rowsIn, recordsIn}
 use Rattle.model.specs.NewCore.{New, new, following, seek, lost, goes, does, newNext}
-use Rattle.model.specs.Cores.{shownOf, goesBy, newShown, newByHeld, newOver}
+use Rattle.model.specs.Trails.{shownOf}
+use Rattle.model.specs.Cores.{goesBy, newByHeld, newOver}
 use Rattle.model.proofs.NewStep.{Outcome, bad, works, links, keeps, misaligned, taken, untaken, moves, found, outside, unplaced, stopped, outcome}
 use Rattle.model.proofs.Hop.{lands, left, Over}
 use Rattle.model.proofs.Trails.{none-some}
@@ -64,7 +65,7 @@ module _ (records places : List ℕ) (base size db : ℕ) where
     unfolding newByHeld goesBy
     kind-6-goes k = rw k
 
-    six-kind : (v : ℕ) (o : Option (Rec ℕ)) → goesBy o h ≡ some v → (o ≡ some goHeld) × (v ≡ h)
+    pub six-kind : (v : ℕ) (o : Option (Rec ℕ)) → goesBy o h ≡ some v → (o ≡ some goHeld) × (v ≡ h)
     unfolding goesBy
     six-kind v none e = none-some e
     six-kind v (some (doWord w)) e = none-some e
@@ -78,7 +79,7 @@ module _ (records places : List ℕ) (base size db : ℕ) where
 
     pub six-lands : (v : ℕ) → newByHeld records (new m r h) ≡ some v → seek (rowsIn places) v ≡ none → inImage base size v ≡ true
         → left (newOver records places base size db) (new m r h) ≡ lands v (shownOf m) (ending 6 v)
-    unfolding newNext newByHeld newShown goesBy does goes lost
+    unfolding newNext newByHeld goesBy does goes lost
     six-lands v b n i =
         let k = six-kind v (getElem? (recordsIn records) r) b in
         rw (k .0, ← (k .1), n, i)

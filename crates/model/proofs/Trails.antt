@@ -1,14 +1,16 @@
--- Trails of any core: more steps change nothing, where a cut stands, that each entry is of a state of the run, how a trail ends, and
--- that a landing closes it.
-use Prim.Native.Nat.{ℕ, zero, suc, _+_, _≤_, _<_}
+-- Trails of any core: more steps change nothing, where a cut stands, that each entry is of a state of the run and none is left out, how a trail
+-- ends, and that a landing closes it.
+use Prim.Native.Nat.{ℕ, zero, suc, _+_, _-_, _≤_, _<_, min}
 use mathlib.Core.Path.{_≡_, refl, sym, ap, _∙_}
+use mathlib.Core.List.{List, [], _∷_}
 use mathlib.Core.Option.{Option, none, some}
 use native.Mathlib.Omega.{arith}
 use lib.ListN.{length}
+use borrow.Author.Tests.{le-leb, lt-leb}
 use Rattle.machine.specs.Ends.{Ending, ending, Next, go, halt, State, state, live, settle}
 use Rattle.effects.specs.Effect.{Machine}
 use Rattle.model.specs.Run.{step, run}
-use Rattle.model.specs.Trails.{Core, Trail, at, closes, turn, trail, entries, later, closing, Unspent, oneIf, stood, Traced}
+use Rattle.model.specs.Trails.{Core, shownAt, Trail, at, closes, turn, trail, entries, later, closing, Unspent, reached, oneIf, stood, landed, Traced}
 use Rattle.model.proofs.Hop.{lands, endsBy, leaves, left, after, Over, settled}
 
 pub none-some : {A : Type 0} {h : ℕ} → none ≡ some h → A
@@ -34,7 +36,7 @@ module _ {S : Type 0} (c : Core S) where
   steady-on (suc f) zero k gap x l u = absurd (omega arith)
   steady-on (suc f) (suc e) k gap (state s (ending (suc n) v)) l u = refl
   steady-on (suc f) (suc e) k gap (state s (ending zero v)) l u =
-      more f e k gap (c .mark s) (c .shown s) (step (c .next) (live s)) (λ k gap. steady-on f e k gap (step (c .next) (live s)) (omega arith)) u
+      more f e k gap (c .mark s) (shownAt c s) (step (c .next) (live s)) (λ k gap. steady-on f e k gap (step (c .next) (live s)) (omega arith)) u
 
   -- -------------------------------------------------------------- where a cut stands
   none-turn : (f gap : ℕ) (o : Option ℕ) (m : Machine) (x : State S) → ((gap : ℕ) → length (entries (trail c f 0 gap x)) ≡ 0)
@@ -48,10 +50,10 @@ module _ {S : Type 0} (c : Core S) where
 
   none-at-0 : (f gap : ℕ) (x : State S) → length (entries (trail c f 0 gap x)) ≡ 0
   none-at-0 zero gap (state s (ending zero v)) = refl
-  none-at-0 zero gap (state s (ending (suc n) v)) = none-closes (c .byHeld s) gap (suc n) v (c .shown s)
-  none-at-0 (suc f) gap (state s (ending (suc n) v)) = none-closes (c .byHeld s) gap (suc n) v (c .shown s)
+  none-at-0 zero gap (state s (ending (suc n) v)) = none-closes (c .byHeld s) gap (suc n) v (shownAt c s)
+  none-at-0 (suc f) gap (state s (ending (suc n) v)) = none-closes (c .byHeld s) gap (suc n) v (shownAt c s)
   none-at-0 (suc f) gap (state s (ending zero v)) =
-      none-turn f gap (c .mark s) (c .shown s) (step (c .next) (live s)) (λ gap. none-at-0 f gap (step (c .next) (live s)))
+      none-turn f gap (c .mark s) (shownAt c s) (step (c .next) (live s)) (λ gap. none-at-0 f gap (step (c .next) (live s)))
 
   -- t is cut at k, u at k + 1
   pub record Cut (k : ℕ) (t u : Trail) : Type 0 where
@@ -75,10 +77,10 @@ module _ {S : Type 0} (c : Core S) where
 
   pub cuts : (f k gap : ℕ) (x : State S) → Unspent (trail c f k gap x) → Cut k (trail c f k gap x) (trail c f (suc k) gap x)
   cuts zero k gap (state s (ending zero v)) u = absurd u
-  cuts zero k gap (state s (ending (suc n) v)) u = cut-closes (c .byHeld s) k gap n v (c .shown s)
-  cuts (suc f) k gap (state s (ending (suc n) v)) u = cut-closes (c .byHeld s) k gap n v (c .shown s)
+  cuts zero k gap (state s (ending (suc n) v)) u = cut-closes (c .byHeld s) k gap n v (shownAt c s)
+  cuts (suc f) k gap (state s (ending (suc n) v)) u = cut-closes (c .byHeld s) k gap n v (shownAt c s)
   cuts (suc f) k gap (state s (ending zero v)) u =
-      cut-turn f k gap (c .mark s) (c .shown s) (step (c .next) (live s)) (λ k gap. cuts f k gap (step (c .next) (live s))) u
+      cut-turn f k gap (c .mark s) (shownAt c s) (step (c .next) (live s)) (λ k gap. cuts f k gap (step (c .next) (live s))) u
 
   -- -------------------------------------------------------------- runs
   pub run-suc : (n : ℕ) (x : State S) → run (c .next) (suc n) x ≡ step (c .next) (run (c .next) n x)
@@ -96,14 +98,14 @@ module _ {S : Type 0} (c : Core S) where
   Shows w t = Traced c w (later t) (entries t)
 
   traced-closes : (k gap n v : ℕ) (w : State S) (s : S) (o : Option ℕ) → c .byHeld s ≡ o → run (c .next) gap w ≡ state s (ending (suc n) v)
-      → Shows w (closes o k gap (c .shown s) (ending (suc n) v))
+      → Shows w (closes o k gap (shownAt c s) (ending (suc n) v))
   traced-closes k gap n v w s none q e = tt
   traced-closes zero gap n v w s (some h) q e = tt
   traced-closes (suc k) gap n v w s (some h) q e = rw e ((q, refl), tt)
 
   traced-turn : (f k gap : ℕ) (w : State S) (s : S) (v : ℕ) (o : Option ℕ) → c .mark s ≡ o → run (c .next) gap w ≡ state s (ending zero v)
       → ((k gap : ℕ) (w : State S) → run (c .next) gap w ≡ step (c .next) (live s) → Shows w (trail c f k gap (step (c .next) (live s))))
-      → Shows w (turn (trail c f) k gap o (c .shown s) (step (c .next) (live s)))
+      → Shows w (turn (trail c f) k gap o (shownAt c s) (step (c .next) (live s)))
   unfolding run step
   traced-turn f k gap w s v none q e ih = ih k (suc gap) w (run-suc gap w ∙ ap (step (c .next)) e)
   traced-turn f zero gap w s v (some a) q e ih = tt
@@ -116,7 +118,90 @@ module _ {S : Type 0} (c : Core S) where
   traced-so (suc f) k gap w (state s (ending zero v)) e =
       traced-turn f k gap w s v (c .mark s) refl e (λ k gap w. traced-so f k gap w (step (c .next) (live s)))
 
-  -- -------------------------------------------------------------- how a trail ends
+  -- -------------------------------------------------------------- as many entries as marks
+  -- no mark stands after an end
+  none-stands : (n z v : ℕ) (s : S) → stood c n (state s (ending (suc z) v)) ≡ 0
+  unfolding step
+  none-stands zero z v s = refl
+  none-stands (suc n) z v s = omega (arith, none-stands n z v s)
+
+  reached-here : (gap n : ℕ) (gs : List ℕ) → reached (gap + n) (gap ∷ gs) ≡ suc (reached n gs)
+  unfolding reached
+  reached-here gap n gs =
+      let e : gap + n - gap ≡ n = omega arith in
+      rw (le-leb gap (gap + n) (omega arith), e)
+
+  -- fewer steps than were done since the last entry lead to no other
+  too-few-turn : (f n k gap : ℕ) (o : Option ℕ) (m : Machine) (x : State S) → n < gap
+      → ((k gap : ℕ) → n < gap → reached n (later (trail c f k gap x)) ≡ 0) → reached n (later (turn (trail c f) k gap o m x)) ≡ 0
+  unfolding reached
+  too-few-turn f n k gap none m x l ih = ih k (suc gap) (omega arith)
+  too-few-turn f n zero gap (some a) m x l ih = refl
+  too-few-turn f n (suc k) gap (some a) m x l ih = rw (lt-leb gap n l)
+
+  too-few-closes : (n k gap : ℕ) (o : Option ℕ) (m : Machine) (e : Ending) → n < gap → reached n (later (closes o k gap m e)) ≡ 0
+  unfolding reached
+  too-few-closes n k gap none m e l = refl
+  too-few-closes n zero gap (some h) m e l = refl
+  too-few-closes n (suc k) gap (some h) m e l = rw (lt-leb gap n l)
+
+  too-few : (f n k gap : ℕ) (x : State S) → n < gap → reached n (later (trail c f k gap x)) ≡ 0
+  unfolding reached
+  too-few zero n k gap (state s (ending zero v)) l = refl
+  too-few zero n k gap (state s (ending (suc z) v)) l = too-few-closes n k gap (c .byHeld s) (shownAt c s) (ending (suc z) v) l
+  too-few (suc f) n k gap (state s (ending (suc z) v)) l = too-few-closes n k gap (c .byHeld s) (shownAt c s) (ending (suc z) v) l
+  too-few (suc f) n k gap (state s (ending zero v)) l =
+      too-few-turn f n k gap (c .mark s) (shownAt c s) (step (c .next) (live s)) l (λ k gap. too-few f n k gap (step (c .next) (live s)))
+
+  -- the marks among the states after 0, 1, .. n steps from x, and the landing that they come to
+  abbrev met : ℕ → State S → ℕ
+  met n x = stood c n x + landed c (run (c .next) n x)
+
+  abbrev AsMany : ℕ → Type 0
+  AsMany n = (f k gap : ℕ) (x : State S) → n < f → reached (gap + n) (later (trail c f k gap x)) ≡ min (met n x) k
+
+  as-many-ended : (n k gap : ℕ) (o : Option ℕ) (m : Machine) (e : Ending) → reached (gap + n) (later (closes o k gap m e)) ≡ min (oneIf o) k
+  unfolding reached
+  as-many-ended n k gap none m e = omega arith
+  as-many-ended n zero gap (some h) m e = omega arith
+  as-many-ended n (suc k) gap (some h) m e = reached-here gap n [] ∙ omega arith
+
+  -- the mark o before the first step, and the states x and after
+  as-many-first : (f k gap : ℕ) (o : Option ℕ) (m : Machine) (x : State S) → reached (gap + 0) (later (turn (trail c f) k gap o m x)) ≡ min (oneIf o) k
+  unfolding reached
+  as-many-first f k gap none m x = too-few f (gap + 0) k (suc gap) x (omega arith) ∙ omega arith
+  as-many-first f zero gap (some a) m x = omega arith
+  as-many-first f (suc k) gap (some a) m x =
+      reached-here gap 0 (later (trail c f k 1 x)) ∙ omega (arith, too-few f 0 k 1 x (omega arith))
+
+  as-many-turn : (n f k gap : ℕ) (o : Option ℕ) (m : Machine) (x : State S) → AsMany n → n < f
+      → reached (gap + suc n) (later (turn (trail c f) k gap o m x)) ≡ min (oneIf o + met n x) k
+  unfolding reached
+  as-many-turn n f k gap none m x ih l =
+      let e : gap + suc n ≡ suc gap + n = omega arith in
+      ap (λ i. reached i (later (trail c f k (suc gap) x))) e ∙ ih f k (suc gap) x l ∙ omega arith
+  as-many-turn n f zero gap (some a) m x ih l = omega arith
+  as-many-turn n f (suc k) gap (some a) m x ih l =
+      let e : 1 + n ≡ suc n = omega arith in
+      let i : reached (suc n) (later (trail c f k 1 x)) ≡ min (met n x) k = rw e at (ih f k 1 x l) in
+      reached-here gap (suc n) (later (trail c f k 1 x)) ∙ omega (arith, i)
+
+  pub as-many-so : (n : ℕ) → AsMany n
+  unfolding run step
+  as-many-so zero zero k gap x l = absurd (omega arith)
+  as-many-so zero (suc f) k gap (state s (ending zero v)) l =
+      as-many-first f k gap (c .mark s) (shownAt c s) (step (c .next) (live s)) ∙ ap (λ i. min i k) (omega arith)
+  as-many-so zero (suc f) k gap (state s (ending (suc z) v)) l =
+      as-many-ended 0 k gap (c .byHeld s) (shownAt c s) (ending (suc z) v) ∙ ap (λ i. min i k) (omega arith)
+  as-many-so (suc n) zero k gap x l = absurd (omega arith)
+  as-many-so (suc n) (suc f) k gap (state s (ending zero v)) l =
+      as-many-turn n f k gap (c .mark s) (shownAt c s) (step (c .next) (live s)) (λ f k gap x. as-many-so n f k gap x) (omega arith)
+      ∙ ap (λ i. min i k) (omega arith)
+  as-many-so (suc n) (suc f) k gap (state s (ending (suc z) v)) l =
+      as-many-ended (suc n) k gap (c .byHeld s) (shownAt c s) (ending (suc z) v)
+      ∙ ap (λ i. min i k) (rw (run-ended (suc n) z v s) (omega (arith, none-stands (suc n) z v s)))
+
+  -- -------------------------------------------------------------- a landing closes the trail
   -- the state whose step ended the run, and that there was room for a landing's entry
   pub record Ended (k n v : ℕ) (x : State S) : Type 0 where
     pub steps : ℕ
@@ -131,7 +216,7 @@ module _ {S : Type 0} (c : Core S) where
 
     -- what fell lands, and has room where the trail closes with its end
     ends-here : (f k j gap : ℕ) (s : S) (o : Option ℕ) (e : Ending) → c .next s ≡ halt e → c .byHeld s ≡ o → oneIf (c .mark s) + j ≤ k
-        → closing (after c f j gap (endsBy o (c .shown s) e)) ≡ ending (suc n) v → Ended k n v (live s)
+        → closing (after c f j gap (endsBy o (shownAt c s) e)) ≡ ending (suc n) v → Ended k n v (live s)
     unfolding run
     ends-here f k j gap s none e q d l y =
         record { steps = 0; last = s; going = refl; halts = q ∙ ap halt y; room = λ h w. none-some (sym d ∙ w) }
@@ -140,7 +225,7 @@ module _ {S : Type 0} (c : Core S) where
 
     -- the step from s left r, with room for j entries after the one before s
     ends-after : (f k j gap : ℕ) (s : S) (r : Next S) → c .next s ≡ r → oneIf (c .mark s) + j ≤ k → Ends f
-        → closing (after c f j gap (leaves (c .byHeld s) (c .shown s) r)) ≡ ending (suc n) v → Unspent (after c f j gap (leaves (c .byHeld s) (c .shown s) r))
+        → closing (after c f j gap (leaves (c .byHeld s) (shownAt c s) r)) ≡ ending (suc n) v → Unspent (after c f j gap (leaves (c .byHeld s) (shownAt c s) r))
         → Ended k n v (live s)
     unfolding run step settle
     ends-after f k j gap s (go t) q l ih e u =
@@ -155,8 +240,8 @@ module _ {S : Type 0} (c : Core S) where
     ends-after f k j gap s (halt z) q l ih e u = ends-here f k j gap s (c .byHeld s) z q refl l e
 
     ends-turn : (f k gap : ℕ) (s : S) (o : Option ℕ) → c .mark s ≡ o → Ends f
-        → closing (turn (trail c f) k gap o (c .shown s) (step (c .next) (live s))) ≡ ending (suc n) v
-        → Unspent (turn (trail c f) k gap o (c .shown s) (step (c .next) (live s))) → Ended k n v (live s)
+        → closing (turn (trail c f) k gap o (shownAt c s) (step (c .next) (live s))) ≡ ending (suc n) v
+        → Unspent (turn (trail c f) k gap o (shownAt c s) (step (c .next) (live s))) → Ended k n v (live s)
     ends-turn f k gap s none q ih e u =
         ends-after f k k (suc gap) s (c .next s) refl (rw q (omega arith)) ih (rw (settled c over f k (suc gap) s) at e)
         (rw (settled c over f k (suc gap) s) at u)
@@ -173,20 +258,20 @@ module _ {S : Type 0} (c : Core S) where
     abbrev Closes : ℕ → Type 0
     Closes n = (f k gap : ℕ) (s : S) → n < f → run (c .next) n (live s) ≡ live last → stood c n (live s) < k → closing (trail c f k gap (live s)) ≡ e
 
-    close-here : (f k gap : ℕ) (o : Option ℕ) → c .mark last ≡ o → oneIf o < k → closing (turn (trail c f) k gap o (c .shown last) (step (c .next) (live last))) ≡ e
+    close-here : (f k gap : ℕ) (o : Option ℕ) → c .mark last ≡ o → oneIf o < k → closing (turn (trail c f) k gap o (shownAt c last) (step (c .next) (live last))) ≡ e
     close-here f zero gap o q l = absurd (omega arith)
     close-here f (suc k) gap none q l = rw (settled c over f (suc k) (suc gap) last, landed)
     close-here f (suc zero) gap (some b) q l = absurd (omega arith)
     close-here f (suc (suc k)) gap (some b) q l = rw (settled c over f (suc k) 1 last, landed)
 
     close-on : (n f k gap : ℕ) (s t : S) (o : Option ℕ) → Closes n → n < f → run (c .next) n (live t) ≡ live last → oneIf o + stood c n (live t) < k
-        → closing (turn (trail c f) k gap o (c .shown s) (live t)) ≡ e
+        → closing (turn (trail c f) k gap o (shownAt c s) (live t)) ≡ e
     close-on n f k gap s t none ih l r w = ih f k (suc gap) t l r (omega arith)
     close-on n f zero gap s t (some b) ih l r w = absurd (omega arith)
     close-on n f (suc k) gap s t (some b) ih l r w = ih f k 1 t l r (omega arith)
 
     close-step : (n f k gap : ℕ) (s : S) (r : Next S) → Over c r → Closes n → n < f → run (c .next) n (settle s r) ≡ live last
-        → oneIf (c .mark s) + stood c n (settle s r) < k → closing (turn (trail c f) k gap (c .mark s) (c .shown s) (settle s r)) ≡ e
+        → oneIf (c .mark s) + stood c n (settle s r) < k → closing (turn (trail c f) k gap (c .mark s) (shownAt c s) (settle s r)) ≡ e
     unfolding settle
     close-step n f k gap s (go t) y ih l r w = close-on n f k gap s t (c .mark s) ih l r w
     close-step n f k gap s (halt (ending zero v)) y ih l r w = absurd (omega arith)

@@ -18,7 +18,7 @@ use Rattle.model.specs.declared.Place.the-variants.{Pair, Held}
 use Rattle.model.specs.OldCore.{wordIn, Transfer, illegal, straight, trap, call, bicc, jmpl, transferOf, target}
 use Rattle.model.specs.Places.{placeAt, member, Which, never, always, depends, whichOf, biccNames, returnNames, names, namesAt, followers, allowed, plains, Makes, from-entry, from-place}
 use Rattle.model.specs.Walk.{Walked, table, refused, endless, grow, grown, tested, handle, walk, placesOf}
-use Rattle.model.proofs.Members.{mem-left, mem-last, AllIn, all-in-left, in-all, AllP, all-append, all-at, all-from, all-map, all-get}
+use Rattle.model.proofs.Members.{mem-left, mem-last, AllIn, all-in-left, in-all, AllP, all-append, all-at, all-from, all-map, all-get, NoTwice, no-twice-last}
 use Rattle.model.proofs.Follows.{Aligned, Closed}
 
 -- ---------------------------------------------------------------- growing the list
@@ -29,6 +29,7 @@ pub record Grew (P : Place → Type 0) (cap : ℕ) (ps fs qs : List Place) : Typ
   pub in-it : AllIn qs fs
   pub all : AllP P ps → AllP P fs → AllP P qs
   pub room : length ps ≤ cap → length qs ≤ cap
+  pub once : NoTwice ps → NoTwice qs
 
 not-refused : {A : Type 0} (c a : ℕ) (qs : List Place) → refused c a ≡ table qs → A
 not-refused c a qs e = let z : _≡_ {A = ℕ} 0 1 = cc in absurd (omega arith)
@@ -38,17 +39,18 @@ not-endless qs e = let z : _≡_ {A = ℕ} 0 1 = cc in absurd (omega arith)
 
 grew-known : (P : Place → Type 0) (cap : ℕ) (ps xs qs : List Place) (x : Place) → member ps x ≡ true → Grew P cap ps xs qs → Grew P cap ps (x ∷ xs) qs
 grew-known P cap ps xs qs x i r =
-    record { new = r .new; eq = r .eq; in-it = (rw (r .eq) (mem-left ps (r .new) x i), r .in-it); all = λ a b. r .all a (b .1); room = r .room }
+    record { new = r .new; eq = r .eq; in-it = (rw (r .eq) (mem-left ps (r .new) x i), r .in-it); all = λ a b. r .all a (b .1); room = r .room; once = r .once }
 
-grew-added : (P : Place → Type 0) (cap : ℕ) (ps xs qs : List Place) (x : Place) → length ps < cap → Grew P cap (ps ++ (x ∷ [])) xs qs
-    → Grew P cap ps (x ∷ xs) qs
-grew-added P cap ps xs qs x l r =
+grew-added : (P : Place → Type 0) (cap : ℕ) (ps xs qs : List Place) (x : Place) → member ps x ≡ false → length ps < cap
+    → Grew P cap (ps ++ (x ∷ [])) xs qs → Grew P cap ps (x ∷ xs) qs
+grew-added P cap ps xs qs x i l r =
     record {
       new = x ∷ r .new;
       eq = r .eq ∙ append-assoc ps (x ∷ []) (r .new);
       in-it = (rw (r .eq) (mem-left (ps ++ (x ∷ [])) (r .new) x (mem-last ps x)), r .in-it);
       all = λ a b. r .all (all-append P ps (x ∷ []) a (b .0, tt)) (b .1);
       room = λ h. r .room (simp length-append (omega arith));
+      once = λ h. r .once (no-twice-last ps x h i);
     }
 
 grew : (P : Place → Type 0) (cap : ℕ) (ps fs qs : List Place) → grow cap ps fs ≡ table qs → Grew P cap ps fs qs
@@ -61,6 +63,7 @@ grew P cap ps [] qs e =
       in-it = tt;
       all = λ a b. subst (AllP P) z a;
       room = λ h. subst (λ (l : List Place). length l ≤ cap) z h;
+      once = λ h. subst NoTwice z h;
     }
 grew P cap ps (x ∷ xs) qs e =
     go (member ps x) (ltb (length ps) cap) refl refl e (λ i. grew P cap ps xs qs i) (λ i. grew P cap (ps ++ (x ∷ [])) xs qs i)
@@ -70,7 +73,7 @@ grew P cap ps (x ∷ xs) qs e =
         → (grow cap ps xs ≡ table qs → Grew P cap ps xs qs) → (grow cap (ps ++ (x ∷ [])) xs ≡ table qs → Grew P cap (ps ++ (x ∷ [])) xs qs)
         → Grew P cap ps (x ∷ xs) qs
     go true c i j k known added = grew-known P cap ps xs qs x i (known k)
-    go false true i j k known added = grew-added P cap ps xs qs x (ltb-true (length ps) cap j) (added k)
+    go false true i j k known added = grew-added P cap ps xs qs x i (ltb-true (length ps) cap j) (added k)
     go false false i j k known added = not-refused 5 (placeAt x) qs k
 
 -- ---------------------------------------------------------------- followers of an aligned place are aligned
@@ -209,6 +212,12 @@ module _ (image : List ℕ) (base : ℕ) where
   places-fit cap es qs e =
       places-keep cap (λ i l. length l ≤ cap) (λ i ps rs x g a u r. grew Aligned cap ps (followers image base x) rs u .room r) es qs
       (λ ps u. grew Aligned cap [] (plains es) ps u .room (omega arith)) e .kept
+
+  -- -------------------------------------------------------------- the list has no place twice
+  pub places-once : (cap : ℕ) (es : List ℕ) (qs : List Place) → placesOf image base cap es ≡ table qs → NoTwice qs
+  places-once cap es qs e =
+      places-keep cap (λ i l. NoTwice l) (λ i ps rs x g a u r. grew Aligned cap ps (followers image base x) rs u .once r) es qs
+      (λ ps u. grew Aligned cap [] (plains es) ps u .once tt) e .kept
 
   -- -------------------------------------------------------------- the list is what the rules make, and all of it
   module _ (cap : ℕ) (es : List ℕ) (qs : List Place) (e : placesOf image base cap es ≡ table qs) where

@@ -6,9 +6,9 @@ use Rattle.machine.specs.Registers.{registerOf}
 use Rattle.effects.specs.Effect.{Machine}
 use Rattle.effects.proofs.Bounds.{Sound, Leaves}
 use Rattle.model.specs.Run.{run, dataOf}
-use Rattle.model.specs.OldCore.{Old, old, oldNext}
-use Rattle.model.specs.NewCore.{New, new, newNext}
-use Rattle.model.specs.StateBytes.{oldIn, newIn, oldMachine, newMachine, ReadsZero, RegisterZero}
+use Rattle.model.specs.OldCore.{Old, old, oldMachine, oldNext}
+use Rattle.model.specs.NewCore.{New, new, newMachine, newNext}
+use Rattle.model.specs.StateBytes.{oldIn, newIn, ReadsZero, RegisterZero}
 use Rattle.model.proofs.Bounds.{SoundState, run-sound, SoundOld, old-leaves, SoundNew, new-leaves}
 use Rattle.model.proofs.Calls.{old-sound, new-sound}
 

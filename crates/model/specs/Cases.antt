@@ -3,7 +3,7 @@ use Prim.Native.Nat.{ℕ, _+_, _*_}
 use mathlib.Core.List.{List, [], _∷_, _++_, map}
 use lib.ListN.{length, getD, set, replicate}
 use Rattle.numbers.specs.Number.{bytesOf, upTo}
-use Rattle.machine.specs.Ends.{Ending, ending, Next, State, state, live}
+use Rattle.machine.specs.Ends.{Ending, ending, endingFrom, Next, State, state, live}
 use Rattle.machine.specs.Registers.{fileSize, yOf}
 use Rattle.windows.specs.Windows.{nestingOf}
 use Rattle.effects.specs.Effect.{machine}
@@ -12,7 +12,7 @@ use Rattle.model.specs.OldCore.{Old, old, oldNext, oldBegun}
 use Rattle.model.specs.Records.{numbersIn}
 use Rattle.model.specs.NewCore.{New, new, newNext}
 use Rattle.model.specs.Translation.{Handed, answerNumbers, translation}
-use Rattle.model.specs.Trails.{Trail, trail, Entry, entry, entries, later, closing}
+use Rattle.model.specs.Trails.{Trail, trail, Entry, entry, entries, later, closing, reached, stood}
 use Rattle.model.specs.StateBytes.{oldSize, newSize, oldBegins, newBegins}
 use Rattle.model.specs.Cores.{Start, oldOver, newOver, oldBegin, newBegin, stepsFor, trailOf, newTrailAt}
 
@@ -31,9 +31,45 @@ over words = oldNext (bytesOf words) 0 0
 unfoldable pub start : ℕ → ℕ → ℕ → State Old
 start i v flags = oldBegun 0 (machine (set (replicate fileSize 0) i v) flags [])
 
--- a register and the flags; the end and the number beside it
+-- an end and the number beside it; a register and the flags
+unfoldable pub endOf : Ending → List ℕ
+endOf (ending n v) = n ∷ v ∷ []
+
 unfoldable pub shown : ℕ → State Old → List ℕ
 shown i (state (old m pc npc annul) e) = getD (m .registers) i 0 ∷ m .flags ∷ []
+
+-- what is told of each number, one behind the other
+unfoldable pub each : (ℕ → List ℕ) → List ℕ → List ℕ
+each f [] = []
+each f (i ∷ is) = f i ++ each f is
+
+-- the word of format 2 with an op3, registers 1 and 2, and rd 3; of format 3 with an op3, register 1, the constant 0, and rd 2
+abbrev pub ofThree : ℕ → ℕ
+ofThree op3 = 0x86004002 + op3 * 0x80000
+
+abbrev pub ofMemory : ℕ → ℕ
+ofMemory op3 = 0xC4006000 + op3 * 0x80000
+
+-- register 3 and the flags after a word, with two registers and the flags set
+unfoldable pub worked : ℕ → ℕ → ℕ → ℕ → List ℕ
+worked flags a b word =
+    shown 3 (run (over (word ∷ [])) 1 (oldBegin (record { address = 0; registers = 0 ∷ a ∷ b ∷ []; flags = flags; area = [] })))
+
+-- register 2, the data and the end after a word, with an address in register 1 and a number in register 2, over seven bytes at data base 4,096
+unfoldable pub touched : State Old → List ℕ
+touched (state (old m pc npc annul) e) = getD (m .registers) 2 0 ∷ m .area ++ endOf e
+
+unfoldable pub moved : ℕ → ℕ → List ℕ
+moved a word =
+    let bytes : List ℕ = 0x81 ∷ 0x92 ∷ 0xA3 ∷ 0xB4 ∷ 5 ∷ 6 ∷ 7 ∷ [] in
+    touched (run (oldNext (bytesOf (word ∷ [])) 0 4096) 1 (oldBegin (record { address = 0; registers = 0 ∷ a ∷ 0x1C2D3E4F ∷ []; flags = 0; area = bytes })))
+
+-- register 2 and the end of a run that writes the byte at the address in register 1, reads it, and writes the byte behind it
+unfoldable pub edge : State Old → List ℕ
+edge (state (old m pc npc annul) e) = getD (m .registers) 2 0 ∷ endOf e
+
+unfoldable pub lastBytes : ℕ → List ℕ → List ℕ
+lastBytes a area = edge (run (over (0xC2286000 ∷ 0xC4086000 ∷ 0xC2286001 ∷ [])) 3 (oldBegin (record { address = 0; registers = 0 ∷ a ∷ []; flags = 0; area = area })))
 
 -- Y, then the same
 unfoldable pub product : ℕ → State Old → List ℕ
@@ -43,18 +79,23 @@ product i (state (old m pc npc annul) e) = yOf (m .registers) ∷ getD (m .regis
 unfoldable pub windowed : List ℕ → State Old → List ℕ
 windowed is (state (old m pc npc annul) e) = nestingOf (m .registers) ∷ m .flags ∷ map (λ i. getD (m .registers) i 0) is
 
-unfoldable pub endOf : Ending → List ℕ
-endOf (ending n v) = n ∷ v ∷ []
-
 unfoldable pub ended : State Old → List ℕ
 ended (state s e) = endOf e
 
 unfoldable pub newEnded : State New → List ℕ
 newEnded (state s e) = endOf e
 
+-- how the new core stands, begun at an address over an image of a length with an empty table
+unfoldable pub newBeginsEnd : ℕ → ℕ → List ℕ
+newBeginsEnd size a = newEnded (newBegin [] 0 size (record { address = a; registers = []; flags = 0; area = [] }))
+
 -- how the new core stands after the step at record r, of records of three numbers each
 unfoldable pub stepAt : ℕ → List ℕ → List ℕ
 stepAt r records = newEnded (run (newNext (bytesOf records) [] 0 0 0) 1 (live (new (machine (replicate fileSize 0) 0 []) r 0)))
+
+-- after a kind 7 with a first, at record 1
+unfoldable pub stopsWith : ℕ → List ℕ
+stopsWith e = stepAt 1 (1 ∷ 0x01000000 ∷ 0 ∷ 7 ∷ e ∷ 9 ∷ [])
 
 -- ---------------------------------------------------------------- translations
 -- the answer's numbers, and the bytes of both buffers
@@ -100,6 +141,14 @@ beginsWithY a y = record { address = a; registers = set (replicate fileSize 0) 3
 unfoldable pub anyWindows : Start
 anyWindows = record { address = 0; registers = upTo (λ i. i + 1) fileSize; flags = 0; area = [] }
 
+-- begun at 0 with 12 in register 1 and a nesting
+unfoldable pub nestedAt : ℕ → Start
+nestedAt w = record { address = 0; registers = set (set (replicate fileSize 0) 1 12) 33 w; flags = 0; area = [] }
+
+-- begun at 0 in window 3 with c and then every fourth number in the file, N, V and C, and three bytes of data
+unfoldable pub anyState : ℕ → Start
+anyState c = record { address = 0; registers = set (upTo (λ i. 4 * i + c) fileSize) 33 3; flags = 11; area = 1 ∷ 2 ∷ 3 ∷ [] }
+
 -- the old core's trail over an image of words at base 0, cut at k entries
 unfoldable pub oldCut : List ℕ → Start → ℕ → Trail
 oldCut words x k = trailOf (oldOver (bytesOf words) 0 0) k (oldBegin x)
@@ -130,6 +179,21 @@ windowsTold (entry a m ∷ es) = nestingOf (m .registers) ∷ getD (m .registers
 unfoldable pub fileTold : List Entry → List ℕ
 fileTold [] = []
 fileTold (entry a m ∷ es) = m .registers ++ fileTold es
+
+-- all of each entry: its address, the file, the flags and the data; and how the trail closes
+unfoldable pub entriesWhole : List Entry → List ℕ
+entriesWhole [] = []
+entriesWhole (entry a m ∷ es) = a ∷ m .registers ++ (m .flags ∷ m .area ++ entriesWhole es)
+
+unfoldable pub wholeTold : Trail → List ℕ
+wholeTold t = entriesWhole (entries t) ++ endOf (closing t)
+
+-- an entry so: begun by `anyState c`, at a, with r in register 1. The ins, locals and outs of window 3 stand from 82 on
+unfoldable pub whole : ℕ → ℕ → ℕ → ℕ → List ℕ → List ℕ
+whole c a r flags bytes =
+    a ∷ 0 ∷ r ∷ upTo (λ i. 4 * i + (8 + c)) 31
+    ++ (3 ∷ upTo (λ i. 4 * i + (136 + c)) 48 ++ upTo (λ i. 4 * i + (96 + c)) 8 ++ upTo (λ i. 4 * i + (64 + c)) 8 ++ upTo (λ i. 4 * i + (32 + c)) 8
+    ++ upTo (λ i. 4 * i + (424 + c)) 56 ++ (flags ∷ bytes))
 
 -- ---------------------------------------------------------------- images
 -- register 1 to local 0 and to out 0; a save; register 1 to local 0; ta 0
@@ -220,6 +284,29 @@ forbiddenPast after = 0x40000006 ∷ nop ∷ after ∷ 0x81C3E008 ∷ 0x10800003
 abbrev pub squares : List ℕ
 squares = 0x84504001 ∷ 0x83400000 ∷ 0x91D02000 ∷ []
 
+-- ba 12; stb %g1 at 1; illegal; subcc %g0, 1, %g1; ta 0
+abbrev pub touches : List ℕ
+touches = 0x10800003 ∷ 0xC2282001 ∷ 0 ∷ 0x82A02001 ∷ 0x91D02000 ∷ []
+
+-- jmpl %g1 + 0 without link; a word that it holds; two words that nothing names
+abbrev pub held : ℕ → List ℕ
+held word = 0x81C06000 ∷ word ∷ nop ∷ nop ∷ []
+
+-- how the trails close in which a word stands in a plain place, in a delay slot and held; the new core's where it is not illegal
+unfoldable pub oldCloses : ℕ → ℕ → List ℕ
+oldCloses w word = oldTold (word ∷ []) (nestedAt w) 9 ++ oldTold (slotted word) (nestedAt w) 9 ++ oldTold (held word) (nestedAt w) 9
+
+unfoldable pub newCloses : ℕ → ℕ → List ℕ
+newCloses w word = newTold 2 3 (word ∷ []) (nestedAt w) 9 ++ newTold 4 6 (slotted word) (nestedAt w) 9 ++ newTold 2 4 (held word) (nestedAt w) 9
+
+-- a table with two plain places of one address behind a slot place of it, a held one and one of no kind that there is; records that go by the held
+-- address, end with 2 and end with 3
+abbrev pub twice : List ℕ
+twice = 8 ∷ 20 ∷ 1 ∷ 2 ∷ 8 ∷ 0 ∷ 2 ∷ 2 ∷ 8 ∷ 12 ∷ 9 ∷ 2 ∷ 8 ∷ 12 ∷ 0 ∷ 1 ∷ 8 ∷ 12 ∷ 0 ∷ 2 ∷ []
+
+abbrev pub goesOrEnds : List ℕ
+goesOrEnds = 6 ∷ 0 ∷ 0 ∷ 7 ∷ 2 ∷ 5 ∷ 7 ∷ 3 ∷ 6 ∷ []
+
 abbrev row : ℕ → List ℕ → List ℕ → Row
 row p got want = record { case = p; got = got; want = want }
 
@@ -258,6 +345,37 @@ cases =
     ∷ row 11 (answerNumbers (translation (replicate 16388 0) 0 (bytesOf (0 ∷ [])) 16 12 .answer)) (1 ∷ 16388 ∷ 0 ∷ [])
     ∷ row 11 (answerNumbers (given (0 ∷ []) (replicate 64 0) 16 12 .answer)) (0 ∷ 1 ∷ 1 ∷ [])
     ∷ row 11 (answerNumbers (given (0 ∷ []) (replicate 65 0) 16 12 .answer)) (3 ∷ 0 ∷ 0 ∷ [])
+    -- "add, addx, sub, subx, and, andn, or, orn, xor, xnor, each plain and setting flags; sll, srl, sra", by V8's op3, with N, V and C set: add, and, or, xor,
+    -- sub, andn, orn, xnor, addx, subx; shifts by 7; the flag forms where sums and differences are 0 or one off
+    ∷ row 0 (each (λ o. worked 11 0xC0000F0F 0x4F00FF07 (ofThree o)) (0 ∷ 1 ∷ 2 ∷ 3 ∷ 4 ∷ 5 ∷ 6 ∷ 7 ∷ 8 ∷ 12 ∷ []))
+    (0x0F010E16 ∷ 11 ∷ 0x40000F07 ∷ 11 ∷ 0xCF00FF0F ∷ 11 ∷ 0x8F00F008 ∷ 11 ∷ 0x70FF1008 ∷ 11 ∷ 0x80000008 ∷ 11 ∷ 0xF0FF0FFF ∷ 11 ∷ 0x70FF0FF7 ∷ 11 ∷ 0x0F010E17 ∷ 11 ∷ 0x70FF1007 ∷ 11
+    ∷ [])
+    ∷ row 0 (each (λ o. worked 11 0xC0000F0F 0x4F00FF07 (ofThree o)) (16 ∷ 17 ∷ 18 ∷ 19 ∷ 20 ∷ 21 ∷ 22 ∷ 23 ∷ 24 ∷ 28 ∷ []))
+    (0x0F010E16 ∷ 1 ∷ 0x40000F07 ∷ 0 ∷ 0xCF00FF0F ∷ 8 ∷ 0x8F00F008 ∷ 8 ∷ 0x70FF1008 ∷ 2 ∷ 0x80000008 ∷ 8 ∷ 0xF0FF0FFF ∷ 8 ∷ 0x70FF0FF7 ∷ 0 ∷ 0x0F010E17 ∷ 1 ∷ 0x70FF1007 ∷ 2
+    ∷ [])
+    ∷ row 0 (each (λ o. worked 11 0x80000000 0x80000000 (ofThree o)) (16 ∷ 20 ∷ 24 ∷ 28 ∷ [])) (0 ∷ 7 ∷ 0 ∷ 4 ∷ 1 ∷ 3 ∷ 0xFFFFFFFF ∷ 9 ∷ [])
+    ∷ row 0 (each (λ o. worked 11 0xC0000F0F 0x4F00FF07 (ofThree o)) (0x25 ∷ 0x26 ∷ 0x27 ∷ [])) (0x78780 ∷ 11 ∷ 0x0180001E ∷ 11 ∷ 0xFF80001E ∷ 11 ∷ [])
+    ∷ row 0 (each (λ o. worked 11 0x7FFFFFFF 63 (ofThree o)) (0x25 ∷ 0x26 ∷ 0x27 ∷ [])) (0x80000000 ∷ 11 ∷ 0 ∷ 11 ∷ 0 ∷ 11 ∷ [])
+    -- "sethi"; "1 Ticc taken, with (rs1 + operand) modulo 128", and one that is not
+    ∷ row 0 (worked 11 0 0 0x073FFFFF) (0xFFFFFC00 ∷ 11 ∷ [])
+    ∷ row 0 (ended (run (over (0x91D06005 ∷ [])) 1 (start 1 1000 0)) ++ ended (run (over (0x83D06005 ∷ [])) 1 (start 1 1000 0))) (1 ∷ 109 ∷ 0 ∷ 0 ∷ [])
+    -- "ld, ldub, ldsb, lduh, ldsh, st, stb, sth", big-endian: the first bytes read and written, by V8's op3
+    ∷ row 0 (each (λ o. moved 4096 (ofMemory o)) (0 ∷ 1 ∷ 9 ∷ 2 ∷ 10 ∷ []))
+    (0x8192A3B4 ∷ 0x81 ∷ 0x92 ∷ 0xA3 ∷ 0xB4 ∷ 5 ∷ 6 ∷ 7 ∷ 0 ∷ 0 ∷ 0x81 ∷ 0x81 ∷ 0x92 ∷ 0xA3 ∷ 0xB4 ∷ 5 ∷ 6 ∷ 7 ∷ 0 ∷ 0
+    ∷ 0xFFFFFF81 ∷ 0x81 ∷ 0x92 ∷ 0xA3 ∷ 0xB4 ∷ 5 ∷ 6 ∷ 7 ∷ 0 ∷ 0 ∷ 0x8192 ∷ 0x81 ∷ 0x92 ∷ 0xA3 ∷ 0xB4 ∷ 5 ∷ 6 ∷ 7 ∷ 0 ∷ 0
+    ∷ 0xFFFF8192 ∷ 0x81 ∷ 0x92 ∷ 0xA3 ∷ 0xB4 ∷ 5 ∷ 6 ∷ 7 ∷ 0 ∷ 0 ∷ [])
+    ∷ row 0 (each (λ o. moved 4096 (ofMemory o)) (4 ∷ 5 ∷ 6 ∷ []))
+    (0x1C2D3E4F ∷ 0x1C ∷ 0x2D ∷ 0x3E ∷ 0x4F ∷ 5 ∷ 6 ∷ 7 ∷ 0 ∷ 0 ∷ 0x1C2D3E4F ∷ 0x4F ∷ 0x92 ∷ 0xA3 ∷ 0xB4 ∷ 5 ∷ 6 ∷ 7 ∷ 0 ∷ 0
+    ∷ 0x1C2D3E4F ∷ 0x3E ∷ 0x4F ∷ 0xA3 ∷ 0xB4 ∷ 5 ∷ 6 ∷ 7 ∷ 0 ∷ 0 ∷ [])
+    -- "fits if (address − data base) modulo 2^32, plus w, is at most the area's length": the last byte and half word of seven bytes, and the first that
+    -- do not fit, at 4,100 and 4,103 and below the data base; misaligned by 1 and by 2
+    ∷ row 0 (moved 4102 (ofMemory 5) ++ moved 4100 (ofMemory 6))
+    (0x1C2D3E4F ∷ 0x81 ∷ 0x92 ∷ 0xA3 ∷ 0xB4 ∷ 5 ∷ 6 ∷ 0x4F ∷ 0 ∷ 0 ∷ 0x1C2D3E4F ∷ 0x81 ∷ 0x92 ∷ 0xA3 ∷ 0xB4 ∷ 0x3E ∷ 0x4F ∷ 7 ∷ 0 ∷ 0 ∷ [])
+    ∷ row 0 (moved 4100 (ofMemory 4) ++ moved 4103 (ofMemory 5) ++ moved 4095 (ofMemory 1))
+    (0x1C2D3E4F ∷ 0x81 ∷ 0x92 ∷ 0xA3 ∷ 0xB4 ∷ 5 ∷ 6 ∷ 7 ∷ 5 ∷ 4100 ∷ 0x1C2D3E4F ∷ 0x81 ∷ 0x92 ∷ 0xA3 ∷ 0xB4 ∷ 5 ∷ 6 ∷ 7 ∷ 5 ∷ 4103
+    ∷ 0x1C2D3E4F ∷ 0x81 ∷ 0x92 ∷ 0xA3 ∷ 0xB4 ∷ 5 ∷ 6 ∷ 7 ∷ 5 ∷ 4095 ∷ [])
+    ∷ row 0 (moved 4097 (ofMemory 2) ++ moved 4098 (ofMemory 0))
+    (0x1C2D3E4F ∷ 0x81 ∷ 0x92 ∷ 0xA3 ∷ 0xB4 ∷ 5 ∷ 6 ∷ 7 ∷ 4 ∷ 4097 ∷ 0x1C2D3E4F ∷ 0x81 ∷ 0x92 ∷ 0xA3 ∷ 0xB4 ∷ 5 ∷ 6 ∷ 7 ∷ 4 ∷ 4098 ∷ [])
     -- further readings that tempt and are wrong: linking p + 8; jmpl's address taken after rd is written; alignment tested after fit
     ∷ row 0 (shown 15 (run (over callsOn) 2 (start 1 0 0))) (4 ∷ 0 ∷ [])
     ∷ row 0 (oldTold jumpsOn (begins 0 16 0) 3) (0 ∷ 0 ∷ 16 ∷ 1 ∷ 4 ∷ 0 ∷ 1 ∷ 16 ∷ 0 ∷ 0 ∷ 0 ∷ [])
@@ -303,7 +421,6 @@ cases =
     ∷ row 0 (stepAt 0 (1 ∷ 0x00800004 ∷ 0 ∷ [])) (0 ∷ 0 ∷ [])
     ∷ row 0 (stepAt 0 (3 ∷ nop ∷ 0 ∷ [])) (7 ∷ 0 ∷ [])
     ∷ row 0 (stepAt 0 (4 ∷ 16 ∷ 0 ∷ [])) (7 ∷ 0 ∷ [])
-    ∷ row 0 (stepAt 0 (7 ∷ 4 ∷ 0 ∷ [])) (7 ∷ 0 ∷ [])
     -- "exactly the given count was done .. and no end met": the trail of a run of one word closes with 0
     ∷ row 0 (told (trail (oldOver (bytesOf p1) 0 0) 1 9 0 (oldBegin (begins 0 7 0)))) (0 ∷ 0 ∷ 7 ∷ 0 ∷ 0 ∷ [])
     -- the listing's image, on both cores
@@ -321,6 +438,8 @@ cases =
     ∷ row 0 (newBegins [] 0 16 8 (bytesOf (upTo (λ i. i + 5) 167)) .state) (bytesOf (0 ∷ upTo (λ i. i + 6) 31 ++ (5 ∷ 0 ∷ 0 ∷ 6 ∷ 8 ∷ 42 ∷ 6 ∷ upTo (λ i. i + 44) 96 ++ upTo (λ i. i + 29) 8 ++ upTo (λ i. i + 21) 8 ++ upTo (λ i. i + 13) 8 ++ upTo (λ i. i + 164) 8)))
     -- and a begin of the old core
     ∷ row 0 (oldBegins 8 (bytesOf (upTo (λ i. i + 5) 168))) (bytesOf (0 ∷ upTo (λ i. i + 6) 31 ++ (5 ∷ 8 ∷ 12 ∷ 0 ∷ 0 ∷ 0 ∷ 43 ∷ 6 ∷ upTo (λ i. i + 45) 96 ++ upTo (λ i. i + 29) 8 ++ upTo (λ i. i + 21) 8 ++ upTo (λ i. i + 13) 8 ++ upTo (λ i. i + 165) 8)))
+    -- the numbers of an end in a state that no core may have written: any but 1 to 9 is still going
+    ∷ row 0 (endOf (endingFrom 0 7) ++ endOf (endingFrom 1 7) ++ endOf (endingFrom 9 7) ++ endOf (endingFrom 10 7)) (0 ∷ 0 ∷ 1 ∷ 7 ∷ 9 ∷ 7 ∷ 0 ∷ 0 ∷ [])
     -- and how many bytes a state has, of either core
     ∷ row 0 (length (oldBegins 8 []) ∷ length (newBegins [] 0 16 8 [] .state) ∷ oldSize ∷ newSize ∷ []) (672 ∷ 668 ∷ 672 ∷ 668 ∷ [])
     -- each refusal, with both buffers: "Every refusal fills both buffers with 0"
@@ -503,19 +622,84 @@ cases =
     ∷ row 0 (windowed (14 ∷ []) (run (over (0x9DE3BFA0 ∷ [])) 1 (start 33 6 5))) (6 ∷ 5 ∷ 0 ∷ [])
     ∷ row 0 (ended (run (over (0x81E00000 ∷ 0x81E80000 ∷ 0x91EA2001 ∷ [])) 3 (start 1 0 0))) (9 ∷ 0 ∷ [])
     ∷ row 0 (windowed (8 ∷ []) (run (over (0x91EA2001 ∷ [])) 1 (start 8 7 5))) (0 ∷ 5 ∷ 7 ∷ [])
-    -- N2's unused bits; kind 1 does both words, and no kind 7 ends so
+    -- N2's unused bits; kind 1 does both words
     ∷ row 0 (ended (run (over (0x81E00020 ∷ [])) 1 (start 33 6 0))) (3 ∷ 0 ∷ [])
     ∷ row 0 (stepAt 0 (1 ∷ 0x81E00000 ∷ 0 ∷ [])) (0 ∷ 0 ∷ [])
     ∷ row 0 (stepAt 0 (1 ∷ 0x81E80000 ∷ 0 ∷ [])) (9 ∷ 0 ∷ [])
     ∷ row 0 (stepAt 0 (1 ∷ 0x81E80020 ∷ 0 ∷ [])) (7 ∷ 0 ∷ [])
-    ∷ row 0 (stepAt 0 (7 ∷ 8 ∷ 6 ∷ [])) (7 ∷ 0 ∷ [])
-    ∷ row 0 (stepAt 0 (7 ∷ 9 ∷ 0 ∷ [])) (7 ∷ 0 ∷ [])
     -- "Trail entries show the nesting and every window", on both cores: the local and the out that window 0 had, and the local of window 1
     ∷ row 0 (windowsTold (entries (oldCut windows (begins 0 7 0) 9))) (0 ∷ 0 ∷ 0 ∷ 0 ∷ 0 ∷ 7 ∷ 0 ∷ 0 ∷ 0 ∷ 7 ∷ 7 ∷ 0 ∷ 1 ∷ 7 ∷ 7 ∷ 0 ∷ 1 ∷ 7 ∷ 7 ∷ 7 ∷ [])
     ∷ row 0 (windowsTold (entries (newCut 5 9 windows (begins 0 7 0) 9))) (0 ∷ 0 ∷ 0 ∷ 0 ∷ 0 ∷ 7 ∷ 0 ∷ 0 ∷ 0 ∷ 7 ∷ 7 ∷ 0 ∷ 1 ∷ 7 ∷ 7 ∷ 0 ∷ 1 ∷ 7 ∷ 7 ∷ 7 ∷ [])
     -- "demand 3 takes any windows and any nesting from 0 to 6, and a nesting handed in above 6 counts as 6": the whole file that a first entry shows
     ∷ row 0 (fileTold (entries (oldCut windows anyWindows 1))) (0 ∷ upTo (λ i. i + 2) 32 ++ (6 ∷ upTo (λ i. i + 35) 96 ++ upTo (λ i. i + 25) 8 ++ upTo (λ i. i + 17) 8 ++ upTo (λ i. i + 9) 8 ++ upTo (λ i. i + 155) 8))
     ∷ row 0 (fileTold (entries (newCut 5 9 windows anyWindows 1))) (0 ∷ upTo (λ i. i + 2) 32 ++ (6 ∷ upTo (λ i. i + 35) 96 ++ upTo (λ i. i + 25) 8 ++ upTo (λ i. i + 17) 8 ++ upTo (λ i. i + 9) 8 ++ upTo (λ i. i + 155) 8))
+    -- an entry shows all of its state wherever it stands, and each stands: in a plain place, a slot, behind a word that wrote data and one that set
+    -- flags; held; and at a landing, whose word is in the image and has no place, or is outside
+    ∷ row 0 (wholeTold (oldCut touches (anyState 8) 9))
+    (whole 8 0 12 11 (1 ∷ 2 ∷ 3 ∷ []) ++ whole 8 4 12 11 (1 ∷ 2 ∷ 3 ∷ []) ++ whole 8 12 12 11 (1 ∷ 12 ∷ 3 ∷ [])
+    ++ whole 8 16 4294967295 9 (1 ∷ 12 ∷ 3 ∷ []) ++ (1 ∷ 0 ∷ []))
+    ∷ row 0 (wholeTold (newCut 4 6 touches (anyState 8) 9))
+    (whole 8 0 12 11 (1 ∷ 2 ∷ 3 ∷ []) ++ whole 8 4 12 11 (1 ∷ 2 ∷ 3 ∷ []) ++ whole 8 12 12 11 (1 ∷ 12 ∷ 3 ∷ [])
+    ++ whole 8 16 4294967295 9 (1 ∷ 12 ∷ 3 ∷ []) ++ (1 ∷ 0 ∷ []))
+    ∷ row 0 (wholeTold (oldCut strays (anyState 8) 3))
+    (whole 8 0 12 11 (1 ∷ 2 ∷ 3 ∷ []) ++ whole 8 4 12 11 (1 ∷ 2 ∷ 3 ∷ []) ++ whole 8 12 13 11 (1 ∷ 2 ∷ 3 ∷ []) ++ (0 ∷ 0 ∷ []))
+    ∷ row 0 (wholeTold (newCut 2 4 strays (anyState 8) 9))
+    (whole 8 0 12 11 (1 ∷ 2 ∷ 3 ∷ []) ++ whole 8 4 12 11 (1 ∷ 2 ∷ 3 ∷ []) ++ whole 8 12 13 11 (1 ∷ 2 ∷ 3 ∷ []) ++ (6 ∷ 12 ∷ []))
+    ∷ row 0 (wholeTold (oldCut strays (anyState 60) 9))
+    (whole 60 0 64 11 (1 ∷ 2 ∷ 3 ∷ []) ++ whole 60 4 64 11 (1 ∷ 2 ∷ 3 ∷ []) ++ whole 60 64 65 11 (1 ∷ 2 ∷ 3 ∷ []) ++ (2 ∷ 64 ∷ []))
+    ∷ row 0 (wholeTold (newCut 2 4 strays (anyState 60) 9))
+    (whole 60 0 64 11 (1 ∷ 2 ∷ 3 ∷ []) ++ whole 60 4 64 11 (1 ∷ 2 ∷ 3 ∷ []) ++ whole 60 64 65 11 (1 ∷ 2 ∷ 3 ∷ []) ++ (2 ∷ 64 ∷ []))
+    -- trails that close with 3, 4, 5, 8 and 9, in a plain place, in a slot and held
+    ∷ row 0 (oldCloses 0 0) (0 ∷ 0 ∷ 12 ∷ 3 ∷ 0 ∷ 0 ∷ 0 ∷ 12 ∷ 1 ∷ 4 ∷ 12 ∷ 3 ∷ 4 ∷ 0 ∷ 0 ∷ 12 ∷ 1 ∷ 4 ∷ 12 ∷ 3 ∷ 4 ∷ [])
+    ∷ row 0 (newTold 1 1 (0 ∷ []) (nestedAt 0) 9 ++ newTold 2 2 (slotted 0) (nestedAt 0) 9 ++ newTold 2 3 (held 0) (nestedAt 0) 9)
+    (0 ∷ 0 ∷ 12 ∷ 3 ∷ 0 ∷ 0 ∷ 0 ∷ 12 ∷ 1 ∷ 4 ∷ 12 ∷ 3 ∷ 4 ∷ 0 ∷ 0 ∷ 12 ∷ 2 ∷ 4 ∷ 12 ∷ 3 ∷ 4 ∷ [])
+    ∷ row 0 (oldCloses 0 0xC4006002) (0 ∷ 0 ∷ 12 ∷ 4 ∷ 14 ∷ 0 ∷ 0 ∷ 12 ∷ 1 ∷ 4 ∷ 12 ∷ 4 ∷ 14 ∷ 0 ∷ 0 ∷ 12 ∷ 1 ∷ 4 ∷ 12 ∷ 4 ∷ 14 ∷ [])
+    ∷ row 0 (newCloses 0 0xC4006002) (0 ∷ 0 ∷ 12 ∷ 4 ∷ 14 ∷ 0 ∷ 0 ∷ 12 ∷ 1 ∷ 4 ∷ 12 ∷ 4 ∷ 14 ∷ 0 ∷ 0 ∷ 12 ∷ 2 ∷ 4 ∷ 12 ∷ 4 ∷ 14 ∷ [])
+    ∷ row 0 (oldCloses 0 0xC4006000) (0 ∷ 0 ∷ 12 ∷ 5 ∷ 12 ∷ 0 ∷ 0 ∷ 12 ∷ 1 ∷ 4 ∷ 12 ∷ 5 ∷ 12 ∷ 0 ∷ 0 ∷ 12 ∷ 1 ∷ 4 ∷ 12 ∷ 5 ∷ 12 ∷ [])
+    ∷ row 0 (newCloses 0 0xC4006000) (0 ∷ 0 ∷ 12 ∷ 5 ∷ 12 ∷ 0 ∷ 0 ∷ 12 ∷ 1 ∷ 4 ∷ 12 ∷ 5 ∷ 12 ∷ 0 ∷ 0 ∷ 12 ∷ 2 ∷ 4 ∷ 12 ∷ 5 ∷ 12 ∷ [])
+    ∷ row 0 (oldCloses 6 0x81E00000) (0 ∷ 0 ∷ 12 ∷ 8 ∷ 6 ∷ 0 ∷ 0 ∷ 12 ∷ 1 ∷ 4 ∷ 12 ∷ 8 ∷ 6 ∷ 0 ∷ 0 ∷ 12 ∷ 1 ∷ 4 ∷ 12 ∷ 8 ∷ 6 ∷ [])
+    ∷ row 0 (newCloses 6 0x81E00000) (0 ∷ 0 ∷ 12 ∷ 8 ∷ 6 ∷ 0 ∷ 0 ∷ 12 ∷ 1 ∷ 4 ∷ 12 ∷ 8 ∷ 6 ∷ 0 ∷ 0 ∷ 12 ∷ 2 ∷ 4 ∷ 12 ∷ 8 ∷ 6 ∷ [])
+    ∷ row 0 (oldCloses 0 0x81E80000) (0 ∷ 0 ∷ 12 ∷ 9 ∷ 0 ∷ 0 ∷ 0 ∷ 12 ∷ 1 ∷ 4 ∷ 12 ∷ 9 ∷ 0 ∷ 0 ∷ 0 ∷ 12 ∷ 1 ∷ 4 ∷ 12 ∷ 9 ∷ 0 ∷ [])
+    ∷ row 0 (newCloses 0 0x81E80000) (0 ∷ 0 ∷ 12 ∷ 9 ∷ 0 ∷ 0 ∷ 0 ∷ 12 ∷ 1 ∷ 4 ∷ 12 ∷ 9 ∷ 0 ∷ 0 ∷ 0 ∷ 12 ∷ 2 ∷ 4 ∷ 12 ∷ 9 ∷ 0 ∷ [])
+    -- how many entries so many steps lead to, and how many stand: an annulled word between two of them has none
+    ∷ row 0 (reached 0 (0 ∷ 2 ∷ 1 ∷ []) ∷ reached 1 (0 ∷ 2 ∷ 1 ∷ []) ∷ reached 2 (0 ∷ 2 ∷ 1 ∷ []) ∷ reached 3 (0 ∷ 2 ∷ 1 ∷ []) ∷ reached 9 (0 ∷ 2 ∷ 1 ∷ []) ∷ [])
+    (1 ∷ 1 ∷ 2 ∷ 3 ∷ 3 ∷ [])
+    ∷ row 0 (map (λ n. stood (oldOver (bytesOf p4) 0 0) n (oldBegin (begins 0 0 0))) (0 ∷ 1 ∷ 2 ∷ 3 ∷ 4 ∷ 9 ∷ [])) (1 ∷ 1 ∷ 2 ∷ 3 ∷ 3 ∷ 3 ∷ [])
+    -- "a kind 7 whose first is not 2 or 3, with the record number": firsts 0 to 9, at record 1
+    ∷ row 0 (stopsWith 0 ++ stopsWith 1 ++ stopsWith 2 ++ stopsWith 3 ++ stopsWith 4 ++ stopsWith 5 ++ stopsWith 6 ++ stopsWith 7 ++ stopsWith 8 ++ stopsWith 9)
+    (7 ∷ 1 ∷ 7 ∷ 1 ∷ 2 ∷ 9 ∷ 3 ∷ 9 ∷ 7 ∷ 1 ∷ 7 ∷ 1 ∷ 7 ∷ 1 ∷ 7 ∷ 1 ∷ 7 ∷ 1 ∷ 7 ∷ 1 ∷ [])
+    -- "Kind 6 seeks the lowest-numbered plain place of the held address", a begin likewise
+    ∷ row 0 (newEnded (run (newNext (bytesOf goesOrEnds) (bytesOf twice) 0 16 0) 2 (live (new (machine (replicate fileSize 0) 0 []) 0 8)))) (2 ∷ 5 ∷ [])
+    ∷ row 0 (told (trailOf (newOver (bytesOf goesOrEnds) (bytesOf twice) 0 16 0) 9 (newBegin (bytesOf twice) 0 16 (begins 8 7 0)))) (0 ∷ 8 ∷ 7 ∷ 2 ∷ 5 ∷ [])
+    -- the held address stays: a kind 6 behind a kind 6 goes by it again
+    ∷ row 0 (newEnded (run (newNext (bytesOf (6 ∷ 0 ∷ 0 ∷ 6 ∷ 0 ∷ 0 ∷ [])) (bytesOf twice) 0 16 0) 2 (live (new (machine (replicate fileSize 0) 0 []) 0 8)))) (0 ∷ 0 ∷ [])
+    -- "in a malformed table that of the lowest-numbered place naming that record", of whatever kind it is
+    ∷ row 0 (told (trail (newOver (bytesOf (5 ∷ 0 ∷ 0 ∷ [])) (bytesOf (8 ∷ 0 ∷ 9 ∷ 0 ∷ 4 ∷ 8 ∷ 0 ∷ 0 ∷ [])) 0 16 0) 2 9 0 (live (new (machine (replicate fileSize 0) 0 []) 0 0)))) (0 ∷ 8 ∷ 0 ∷ 1 ∷ 8 ∷ 0 ∷ 0 ∷ 0 ∷ [])
+    -- "the order is: PC a multiple of 4, PC in the image": a misaligned address inside, and one outside
+    ∷ row 0 (oldTold (nop ∷ nop ∷ []) (begins 2 7 0) 9 ++ oldTold (nop ∷ nop ∷ []) (begins 10 7 0) 9) (0 ∷ 2 ∷ 7 ∷ 4 ∷ 2 ∷ 0 ∷ 10 ∷ 7 ∷ 4 ∷ 10 ∷ [])
+    -- "(address − base) modulo 2^32, plus 4, is at most its length": the one word of an image, and one past it; no whole word
+    ∷ row 0 (oldTold (0x91D02000 ∷ []) (begins 0 7 0) 9 ++ oldTold (0x91D02000 ∷ []) (begins 4 7 0) 9) (0 ∷ 0 ∷ 7 ∷ 1 ∷ 0 ∷ 0 ∷ 4 ∷ 7 ∷ 2 ∷ 4 ∷ [])
+    ∷ row 0 (newTold 1 1 (0x91D02000 ∷ []) (begins 0 7 0) 9 ++ newTold 1 1 (0x91D02000 ∷ []) (begins 4 7 0) 9) (0 ∷ 0 ∷ 7 ∷ 1 ∷ 0 ∷ 0 ∷ 4 ∷ 7 ∷ 2 ∷ 4 ∷ [])
+    ∷ row 0 (listed 1 1 (0x91D02000 ∷ []) ++ answerNumbers (given (0x91D02000 ∷ []) (4 ∷ []) 16 12 .answer)) (0 ∷ 1 ∷ 1 ∷ 0 ∷ 4 ∷ 0 ∷ 0 ∷ 1 ∷ 0x91D02000 ∷ 0 ∷ 3 ∷ 1 ∷ 0 ∷ [])
+    ∷ row 0 (told (trailOf (oldOver (replicate 7 0) 0 0) 9 (oldBegin (begins 4 7 0))) ++ told (trailOf (oldOver (replicate 3 0) 0 0) 9 (oldBegin (begins 0 7 0)))
+    ++ oldTold [] (begins 0 7 0) 9)
+    (0 ∷ 4 ∷ 7 ∷ 2 ∷ 4 ∷ 0 ∷ 0 ∷ 7 ∷ 2 ∷ 0 ∷ 0 ∷ 0 ∷ 7 ∷ 2 ∷ 0 ∷ [])
+    ∷ row 0 (newBeginsEnd 8 4 ++ newBeginsEnd 7 4 ++ newBeginsEnd 4 0 ++ newBeginsEnd 3 0 ++ newBeginsEnd 0 0) (6 ∷ 4 ∷ 2 ∷ 4 ∷ 6 ∷ 0 ∷ 2 ∷ 0 ∷ 2 ∷ 0 ∷ [])
+    ∷ row 0 (answerNumbers (given p1 (12 ∷ []) 16 12 .answer) ++ answerNumbers (given p1 (16 ∷ []) 16 12 .answer)) (0 ∷ 1 ∷ 1 ∷ 3 ∷ 1 ∷ 0 ∷ [])
+    -- "Data is one lent area of 0 to 65,536 bytes ..; bytes past that are no part of it": byte 65,535 is written and read, byte 65,536 is not there
+    ∷ row 0 (lastBytes 65535 (replicate 65537 0)) (255 ∷ 5 ∷ 65536 ∷ [])
+    -- "Bicc 0 without annul ..: plain n": one 5, in a plain place and in a slot; held: 1, 6
+    ∷ row 0 (listed 3 4 (0x00800004 ∷ nop ∷ 0 ∷ []))
+    (0 ∷ 3 ∷ 4 ∷ 0 ∷ 4 ∷ 0 ∷ 0 ∷ 4 ∷ 8 ∷ 0 ∷ 1 ∷ 8 ∷ 12 ∷ 0 ∷ 3 ∷ 5 ∷ 1 ∷ 0 ∷ 1 ∷ 0x01000000 ∷ 0 ∷ 5 ∷ 3 ∷ 0 ∷ 7 ∷ 3 ∷ 8 ∷ [])
+    ∷ row 0 (listed 4 5 (slotted 0x00800004))
+    (0 ∷ 4 ∷ 5
+    ∷ 0 ∷ 4 ∷ 0 ∷ 0 ∷ 4 ∷ 16 ∷ 1 ∷ 1 ∷ 16 ∷ 20 ∷ 0 ∷ 2 ∷ 20 ∷ 24 ∷ 0 ∷ 4
+    ∷ 5 ∷ 1 ∷ 0 ∷ 5 ∷ 2 ∷ 0 ∷ 1 ∷ 0x01000000 ∷ 0 ∷ 5 ∷ 4 ∷ 0 ∷ 7 ∷ 3 ∷ 20
+    ∷ [])
+    ∷ row 0 (listed 2 4 (held 0x00800004))
+    (0 ∷ 2 ∷ 4 ∷ 0 ∷ 4 ∷ 0 ∷ 0 ∷ 4 ∷ 0 ∷ 2 ∷ 2 ∷ 3 ∷ 0x81C06000 ∷ 0 ∷ 5 ∷ 2 ∷ 0 ∷ 1 ∷ 0x00800004 ∷ 0 ∷ 6 ∷ 0 ∷ 0 ∷ [])
+    ∷ row 0 (oldTold (held 0x00800004) (begins 0 12 0) 3) (0 ∷ 0 ∷ 12 ∷ 1 ∷ 4 ∷ 12 ∷ 1 ∷ 12 ∷ 12 ∷ 0 ∷ 0 ∷ [])
+    ∷ row 0 (newTold 2 4 (held 0x00800004) (begins 0 12 0) 9) (0 ∷ 0 ∷ 12 ∷ 2 ∷ 4 ∷ 12 ∷ 2 ∷ 12 ∷ 12 ∷ 6 ∷ 12 ∷ [])
     ∷ []
 
 pub noCase : Row

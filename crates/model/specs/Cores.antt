@@ -1,42 +1,28 @@
 -- Both cores with what 01 feeds each and nothing else, their starts, and the marks of their trails.
-use Prim.Native.Nat.{ℕ, zero, suc, _+_, _-_, _*_}
+use Prim.Native.Nat.{ℕ, zero, suc, _+_, _*_}
 use mathlib.Core.Bool.{true, false}
 use mathlib.Core.List.{List, [], _∷_}
 use mathlib.Core.Option.{Option, none, some}
 use lib.Dec.{eqb}
-use lib.ListN.{getD, getElem?}
+use lib.ListN.{getElem?}
 use Rattle.numbers.specs.Choice.{pick}
-use Rattle.numbers.specs.Number.{upTo}
 use Rattle.machine.specs.Ends.{ending, State, state}
-use Rattle.machine.specs.Registers.{fileSize}
-use Rattle.windows.specs.Windows.{laid, comeIn}
+use Rattle.windows.specs.Windows.{comeIn}
 use Rattle.effects.specs.Effect.{Machine, machine}
 use Rattle.model.specs.Run.{dataOf}
-use Rattle.model.specs.OldCore.{Old, old, oldNext, oldBegun}
+use Rattle.model.specs.OldCore.{Old, old, oldMachine, oldNext, oldBegun}
 use Rattle.model.specs.Records.{Rec, doWord, link, hold, goIf, goTo, goHeld, stop, unknown, Row, row, rowsIn, recordsIn}
-use Rattle.model.specs.NewCore.{New, new, newNext, newBegun}
-use Rattle.model.specs.Trails.{Core, Trail, landing, trail}
-
--- all numbers of a file: "Register 0 reads and shows as 0"
-abbrev pub wholeFile : List ℕ → List ℕ
-wholeFile rs = 0 ∷ upTo (λ i. getD rs (i + 1) 0) (fileSize - 1)
-
--- what an entry shows: registers 0 to 31, the flags, and the data, of which there are at most 65,536 bytes. 02, N4: "The state and each trail entry
--- gain Y"; N11: "Trail entries show the nesting and every window"; they stand behind the registers
-unfoldable pub shownOf : Machine → Machine
-shownOf m = machine (laid (wholeFile (m .registers))) (m .flags) (dataOf (m .area))
+use Rattle.model.specs.NewCore.{New, new, newMachine, newNext, newBegun}
+use Rattle.model.specs.Trails.{wholeFile, Core, shownAt, Trail, landing, trail}
 
 -- "The old core's trail has an entry before each step in which annul is clear and the run has not ended, addresses outside the image included."
 unfoldable pub oldMark : Old → Option ℕ
 oldMark (old m pc npc true) = none
 oldMark (old m pc npc false) = some pc
 
-unfoldable pub oldShown : Old → Machine
-oldShown (old m pc npc annul) = shownOf m
-
 -- "The old core is fed image, base, data base, its own state and the data area, and nothing of a translation."
 abbrev pub oldOver : List ℕ → ℕ → ℕ → Core Old
-oldOver image base db = record { next = oldNext image base db; mark = oldMark; shown = oldShown; byHeld = λ s. none }
+oldOver image base db = record { next = oldNext image base db; mark = oldMark; machineOf = oldMachine; byHeld = λ s. none }
 
 -- "An entry also stands before each group's first record; its address is its place's, in a malformed table that of the lowest-numbered
 -- place naming that record"
@@ -46,9 +32,6 @@ naming (row p n k f ∷ rs) r = pick (eqb f r) (some p) (naming rs r)
 
 unfoldable pub newMark : List ℕ → New → Option ℕ
 newMark places (new m r h) = naming (rowsIn places) r
-
-unfoldable pub newShown : New → Machine
-newShown (new m r h) = shownOf m
 
 -- "6 go by the held address", h: no other record does
 unfoldable pub goesBy : Option (Rec ℕ) → ℕ → Option ℕ
@@ -68,7 +51,7 @@ newByHeld records (new m r h) = goesBy (getElem? (recordsIn records) r) h
 -- "The new core is given records, place table, base and image length", as bytes, and the data base.
 abbrev pub newOver : List ℕ → List ℕ → ℕ → ℕ → ℕ → Core New
 newOver records places base size db =
-    record { next = newNext records places base size db; mark = newMark places; shown = newShown; byHeld = newByHeld records }
+    record { next = newNext records places base size db; mark = newMark places; machineOf = newMachine; byHeld = newByHeld records }
 
 -- where a run begins, and with "any registers, flags and data". 02, N4: "demand 3 takes any Y"; N11: "demand 3 takes any windows and any nesting from
 -- 0 to 6, and a nesting handed in above 6 counts as 6"; they stand behind the registers
@@ -102,4 +85,4 @@ trailOf c k x = trail c (stepsFor k) k 0 x
 -- the new core's trail, of a run of a given count, where it was begun at a: "(with none, as kind 6 would)", the one entry at a, and its end
 unfoldable pub newTrailAt : Core New → ℕ → ℕ → ℕ → State New → Trail
 newTrailAt c count k a (state s (ending zero v)) = trail c count k 0 (state s (ending zero v))
-newTrailAt c count k a (state s (ending (suc n) v)) = landing k 0 a (c .shown s) (ending (suc n) v)
+newTrailAt c count k a (state s (ending (suc n) v)) = landing k 0 a (shownAt c s) (ending (suc n) v)

@@ -1,6 +1,6 @@
 -- Demand 3 of the request. Above each part stand the words that it renders. Throughout, x and y are starts, s a core's state with how it
 -- ended, a an address, h a held address, c a core (o the old one, n the new one), t and u trails (t old, u new), and k the cut.
-use Prim.Native.Nat.{ℕ, suc, _*_, _≤_, _<_, min}
+use Prim.Native.Nat.{ℕ, suc, _+_, _*_, _≤_, _<_, min}
 use mathlib.Core.Path.{_≡_}
 use mathlib.Core.Logic.{_↔_}
 use mathlib.Core.Bool.{Bool, true}
@@ -18,7 +18,7 @@ use Rattle.model.specs.OldCore.{inImage}
 use Rattle.model.specs.Places.{plain, Makes}
 use Rattle.model.specs.Records.{numbersIn}
 use Rattle.model.specs.Translation.{Handed, translation}
-use Rattle.model.specs.Trails.{Core, Trail, at, trail, entries, closing, opening, lastAt, later, gaps, OneOrTwo, Unspent, stood, Traced}
+use Rattle.model.specs.Trails.{Core, Trail, at, trail, entries, closing, opening, lastAt, later, gaps, OneOrTwo, Unspent, reached, stood, landed, Traced}
 use Rattle.model.specs.Cores.{Start, oldOver, newOver, oldBegin, newBegin, stepsFor, trailOf}
 
 -- "any address with a plain place to begin at": 01, "where the rules under Places make one from image, base and entry list"
@@ -45,11 +45,13 @@ pub record Begins (x : Start) (t : Trail) : Type 0 where
   pub same-flags : flags ≡ x .flags
   pub same-bytes : area ≡ take 65536 (x .area)
 
--- 01: "A trail is made of its core's steps alone": each entry is that of the state so many steps after the last one's, and no count of
--- steps from the bound up makes another trail.
+-- 01: "A trail is made of its core's steps alone": each entry is that of the state so many steps after the last one's, and none is left out: however
+-- many steps are done, they lead to as many entries as marks stood, and to one more where the run has landed, up to the cut. No count of steps from
+-- the bound up makes another trail.
 -- 01: "A trail cut at k entries closes with 0 where entry k + 1 would come; any other closes with its end and that end's number."
 pub record Complete {S : Type 0} (c : Core S) (k : ℕ) (s : State S) : Type 0 where
   pub traced : Traced c s (later (trailOf c k s)) (entries (trailOf c k s))
+  pub as-many : (steps : ℕ) → reached steps (later (trailOf c k s)) ≡ min (stood c steps s + landed c (run (c .next) steps s)) k
   pub unspent : Unspent (trailOf c k s)
   pub steady : (count : ℕ) → stepsFor k ≤ count → trail c count k 0 s ≡ trailOf c k s
   pub full-cut : closing (trailOf c k s) ≡ ending 0 0 → length (entries (trailOf c k s)) ≡ k

@@ -1,7 +1,7 @@
 -- Demand 3 as a loader sees it: trails read off the bytes that the exported functions leave, each call being a run of count 1 on the
--- state and data bytes that the last one left. A call that ends leaves bytes too, which no further entry shows: `old-runs-add` and
--- `new-runs-add` (proofs/Interface) cover them, since by them the call's bytes are those of one run of as many steps from the first bytes,
--- and of such a run the contracts say every byte.
+-- state and data bytes that the last one left. A call that ends leaves bytes too, which no further entry shows: `OldRunsAdd` and
+-- `NewRunsAdd` (StateBytes) cover them, since by them the call's bytes are those of one run of as many steps from the first bytes, and of
+-- such a run the contracts say every byte.
 use Prim.Native.Nat.{ℕ, zero, suc, _*_, _%_, _≤_}
 use mathlib.Core.Path.{_≡_}
 use mathlib.Core.List.{List, [], _∷_}
@@ -12,12 +12,12 @@ use Rattle.numbers.specs.Choice.{pick}
 use Rattle.numbers.specs.Number.{Below, numberAt}
 use Rattle.machine.specs.Ends.{Ending, ending, Next, go, halt, State, state, live}
 use Rattle.effects.specs.Effect.{Machine, machine}
-use Rattle.model.specs.Run.{dataOf}
+use Rattle.model.specs.Run.{run, dataOf}
 use Rattle.model.specs.OldCore.{inImage}
 use Rattle.model.specs.Records.{rowsIn, recordsIn}
 use Rattle.model.specs.Translation.{back, returned, translation}
-use Rattle.model.specs.Trails.{Core}
-use Rattle.model.specs.Cores.{naming, goesBy, Start}
+use Rattle.model.specs.Trails.{Core, shownAt}
+use Rattle.model.specs.Cores.{oldOver, naming, goesBy, newOver, Start, oldBegin, newBegin, trailOf}
 use Rattle.model.specs.Demand3.{Placed, Holds}
 use Rattle.model.specs.StateBytes.{After, fileIn, oldBehind, newBehind, oldBegins, oldRuns, newBegins, newRuns}
 
@@ -37,9 +37,10 @@ answered (ending (suc n) v) b = halt (ending (suc n) v)
 unfoldable pub called : After → Next Bytes
 called x = answered (x .ended) (bytes (x .state) (x .area))
 
--- an entry's registers and Y, flags and data: numbers 0 to 32 of the state, what is from its byte `behind` on, and the data
-unfoldable pub bytesShown : ℕ → Bytes → Machine
-bytesShown behind b = machine (fileIn behind (b .state)) (numberAt (b .state) 128) (dataOf (b .area))
+-- the machine that bytes hold: registers are numbers 0 to 31 of the state, flags number 32, Y and windows what is from its byte `behind` on, and the
+-- data
+unfoldable pub bytesMachine : ℕ → Bytes → Machine
+bytesMachine behind b = machine (fileIn behind (b .state)) (numberAt (b .state) 128) (dataOf (b .area))
 
 -- the old core: PC is number 33 and annul number 35
 unfoldable pub oldBytesMark : Bytes → Option ℕ
@@ -47,7 +48,7 @@ oldBytesMark b = pick (eqb (numberAt (b .state) 140) 0) (some (numberAt (b .stat
 
 abbrev pub oldCalls : List ℕ → ℕ → ℕ → Core Bytes
 oldCalls image base db =
-    record { next = λ b. called (oldRuns image base db 1 (b .state) (b .area)); mark = oldBytesMark; shown = bytesShown oldBehind; byHeld = λ b. none }
+    record { next = λ b. called (oldRuns image base db 1 (b .state) (b .area)); mark = oldBytesMark; machineOf = bytesMachine oldBehind; byHeld = λ b. none }
 
 -- the new core: the record number is number 33, the held address number 34
 unfoldable pub newBytesMark : List ℕ → Bytes → Option ℕ
@@ -61,7 +62,7 @@ newCalls records places base size db =
     record {
       next = λ b. called (newRuns records places base size db 1 (b .state) (b .area));
       mark = newBytesMark places;
-      shown = bytesShown newBehind;
+      machineOf = bytesMachine newBehind;
       byHeld = newBytesByHeld records;
     }
 
@@ -77,6 +78,12 @@ newStarted places base size a b =
 -- the start that bytes are
 abbrev pub startOf : ℕ → ℕ → Bytes → Start
 startOf behind a b = record { address = a; registers = fileIn behind (b .state); flags = numberAt (b .state) 128 % 16; area = b .area }
+
+-- a core of calls beside the core d whose steps they are: the trail read off the bytes is d's own, and each entry shows the registers, flags and data
+-- that stand in the bytes, as they stand
+pub record ReadOff {S : Type 0} (behind k : ℕ) (c : Core Bytes) (x : State Bytes) (d : Core S) (y : State S) : Type 0 where
+  pub same-trail : trailOf c k x ≡ trailOf d k y
+  pub as-it-stands : (count : ℕ) (b : Bytes) → run (c .next) count x ≡ live b → shownAt c b ≡ bytesMachine behind b
 
 -- the begins and runs are those that the contracts of `pijorrel_old_begin`, `pijorrel_old_run`, `pijorrel_new_begin`, `pijorrel_new_run` cite
 unfoldable pub Interface : Type 0
@@ -94,3 +101,6 @@ Interface =
     → Holds (Placed image base entryList) (inImage base (length image)) k (startOf oldBehind a b) (startOf newBehind a′ b′)
     (oldCalls image base db) (oldStarted a b)
     (newCalls records places base (length image) db) (newStarted places base (length image) a′ b′)
+    × ReadOff oldBehind k (oldCalls image base db) (oldStarted a b) (oldOver image base db) (oldBegin (startOf oldBehind a b))
+    × ReadOff newBehind k (newCalls records places base (length image) db) (newStarted places base (length image) a′ b′)
+    (newOver records places base (length image) db) (newBegin places base (length image) (startOf newBehind a′ b′))

@@ -7,9 +7,11 @@ pub mod RecordCalls
 pub mod Records
 pub mod NewCore
 pub mod Translation
+pub mod AllOfThem
 pub mod FirstBadEntry
 pub mod Trails
 pub mod Cores
+pub mod CoreLaws
 pub mod Demand3
 pub mod StateBytes
 pub mod Interface

@@ -20,6 +20,9 @@ use Rattle.model.specs.Records.{Rec, doWord, link, hold, goIf, goTo, goH
 pub data New : Type 0 where
   new : Machine → ℕ → ℕ → New
 
+abbrev pub newMachine : New → Machine
+newMachine (new m r h) = m
+
 -- "After 1, 2, 3 and a 4 whose condition fails comes the next record": its number has 32 bits
 unfoldable pub following : ℕ → ℕ → Machine → New
 following r h m = new m (plus r 1) h

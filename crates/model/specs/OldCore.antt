@@ -21,6 +21,9 @@ use Rattle.effects.specs.Effect.{Machine, withRegisters, effectOf}
 pub data Old : Type 0 where
   old : Machine → ℕ → ℕ → Bool → Old
 
+abbrev pub oldMachine : Old → Machine
+oldMachine (old m pc npc annul) = m
+
 -- "An address lies in the image if (address − base) modulo 2^32, plus 4, is at most its length."
 unfoldable pub inImage : ℕ → ℕ → ℕ → Bool
 inImage base size p = leb (minus p base + 4) size

@@ -11,8 +11,8 @@ use Rattle.machine.specs.Ends.{Ending, ending, endingFrom, State, state}
 use Rattle.machine.specs.Registers.{fileSize, registerOf}
 use Rattle.windows.specs.Windows.{laid, comeIn}
 use Rattle.effects.specs.Effect.{Machine, machine}
-use Rattle.model.specs.OldCore.{Old, old, oldNext, oldBegun}
-use Rattle.model.specs.NewCore.{New, new, newNext, newBegun}
+use Rattle.model.specs.OldCore.{Old, old, oldMachine, oldNext, oldBegun}
+use Rattle.model.specs.NewCore.{New, new, newMachine, newNext, newBegun}
 use Rattle.model.specs.Run.{run, zeroed, dataOf, beyond}
 
 -- numbers 0 to 31 are the registers. 02, N4: "The state and each trail entry gain Y"; N11: "Trail entries show the nesting and every window": what the
@@ -94,13 +94,21 @@ unfoldable pub newRuns : List ℕ → List ℕ → ℕ → ℕ → ℕ → ℕ �
 newRuns records places base size db count bytes area =
     newAfter (run (newNext records places base size db) count (newIn bytes (dataOf area))) (beyond area)
 
+-- 01, Records: "Each step gets the state and data that the last one left": on bytes, a run of m and then one of n leave what one of m + n does
+unfoldable pub OldRunsAdd : Type 0
+OldRunsAdd =
+    (image : List ℕ) (base db m n : ℕ) (bytes area : List ℕ) → Below 256 bytes → Below 256 area
+    → let once = oldRuns image base db m bytes area in
+    oldRuns image base db n (once .state) (once .area) ≡ oldRuns image base db (m + n) bytes area
+
+-- over any records and table, and so over those that `translation` hands back, which are bytes (`all-of-them`)
+unfoldable pub NewRunsAdd : Type 0
+NewRunsAdd =
+    (records places : List ℕ) (base size db m n : ℕ) (bytes area : List ℕ) → Below 256 records → Below 256 places → Below 256 bytes → Below 256 area
+    → let once = newRuns records places base size db m bytes area in
+    newRuns records places base size db n (once .state) (once .area) ≡ newRuns records places base size db (m + n) bytes area
+
 -- 01, The old core: "Register 0 reads and shows as 0.", of both cores: whatever the bytes, it is 0 in every state that a run comes to
-abbrev pub oldMachine : Old → Machine
-oldMachine (old m pc npc annul) = m
-
-abbrev pub newMachine : New → Machine
-newMachine (new m r h) = m
-
 abbrev pub ReadsZero : {S : Type 0} → (S → Machine) → State S → Type 0
 ReadsZero machineOf (state s e) = registerOf (machineOf s .registers) 0 ≡ 0
 

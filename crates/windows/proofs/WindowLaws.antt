@@ -7,15 +7,16 @@ use mathlib.Core.Logic.{_⊎_, inl, inr}
 use mathlib.Core.Bool.{Bool, true, false}
 use mathlib.Core.List.{List}
 use lib.Dec.{eqb, ltb}
-use lib.ListN.{length, getD, set}
-use lib.Seq.{getD-set-same, getD-set-other}
+use lib.ListN.{getD}
+use lib.Seq.{getD-set-other}
 use borrow.Author.Tests.{eqb-true, eqb-false, lt-ltb, le-ltb, ltb-true, ltb-false}
 use Rattle.words.specs.declared.WindowOperation.the-variants.{Save, Restore}
 use Rattle.machine.specs.Ends.{ending, go, halt}
-use Rattle.machine.specs.Registers.{fileSize, registerOf, putRegister, yOf}
+use Rattle.machine.specs.Registers.{registerOf, putRegister, yOf}
 use Rattle.windows.specs.Windows.{nestingOf, placeOf, ringPlace, laid, taken, cleared, Held, turned, windowOf}
 use Rattle.windows.specs.WindowLaws.{Place, inWindow, Left, Turned, savesOf, WindowLaws}
 use Rattle.machine.proofs.Zero.{put-zero}
+use Rattle.machine.proofs.Writes.{put-own, put-far}
 use Rattle.windows.proofs.Ring.{ring-past, ring-lt, ring-apart, Covered, covered, free, covers, laid-low, laid-free, laid-own, laid-length, cleared-low, cleared-free, taken-other, taken-own, put-nesting, put-held, turned-nesting, turned-low, turned-held, in-alike}
 
 -- ---------------------------------------------------------------- places
@@ -57,25 +58,31 @@ around-ins k h =
     let i : 16 * 0 + 8 * (3 - (24 + k) / 8) + (24 + k) % 8 ≡ k = omega arith in
     rw (le-ltb (8 + k) 8 (omega arith), le-ltb (24 + k) 8 (omega arith), o, i) (omega arith)
 
+-- the sixteen places of each window's ins and locals
+apart-at : (w v x y : ℕ) → w < 8 → v < 8 → x < 16 → y < 16 → 34 + (16 * w + x) % 128 ≡ 34 + (16 * v + y) % 128 → (w ≡ v) × (x ≡ y)
+apart-at w v x y a b c d e = (omega arith, omega arith)
+
+at-16 : (w r : ℕ) → 16 ≤ r → placeOf w r ≡ 34 + (16 * w + (8 * (3 - r / 8) + r % 8)) % 128
+unfolding placeOf
+at-16 w r l = rw (le-ltb r 8 (omega arith)) (ap (λ n. 34 + n % 128) (omega arith))
+
+places-own : (w v r s : ℕ) → w < 8 → v < 8 → 16 ≤ r → r < 32 → 16 ≤ s → s < 32 → placeOf w r ≡ placeOf v s → (w ≡ v) × (r ≡ s)
+places-own w v r s a b lr hr ls hs e =
+    let z = apart-at w v (8 * (3 - r / 8) + r % 8) (8 * (3 - s / 8) + s % 8) a b (omega arith) (omega arith) (sym (at-16 w r lr) ∙ e ∙ at-16 v s ls) in
+    (z .0, numbered r s lr hr ls hs (z .1))
+  where
+    numbered : (r s : ℕ) → 16 ≤ r → r < 32 → 16 ≤ s → s < 32 → 8 * (3 - r / 8) + r % 8 ≡ 8 * (3 - s / 8) + s % 8 → r ≡ s
+    numbered r s a b c d e = omega arith
+
 -- ---------------------------------------------------------------- a register is written
-not-first : (rs : List ℕ) (rd t j : ℕ) → (j ≡ 0 → ⊥) → getD (putRegister rs rd t) j 0 ≡ getD (set rs (rd % 32) t) j 0
-unfolding putRegister
-not-first rs rd t j n = getD-set-other (set rs (rd % 32) t) 0 j 0 0 n
-
-put-own : (rs : List ℕ) (rd t : ℕ) → length rs ≡ fileSize → (rd % 32 ≡ 0 → ⊥) → getD (putRegister rs rd t) (rd % 32) 0 ≡ t
-put-own rs rd t l n = not-first rs rd t (rd % 32) n ∙ getD-set-same rs (rd % 32) t 0 (omega (arith, l))
-
 -- a number of the file that a write of rd leaves
 put-other : (rs : List ℕ) (rd t j : ℕ) → getD rs 0 0 ≡ 0 → (rd % 32 ≡ 0) ⊎ (j ≡ rd % 32 → ⊥) → getD (putRegister rs rd t) j 0 ≡ getD rs j 0
 put-other rs rd t j z f = go (eqb j 0) refl f
   where
-    outer : (j ≡ 0 → ⊥) → getD (putRegister rs rd t) j 0 ≡ getD (set rs (rd % 32) t) j 0
-    outer n = not-first rs rd t j n
-
     go : (b : Bool) → eqb j 0 ≡ b → (rd % 32 ≡ 0) ⊎ (j ≡ rd % 32 → ⊥) → getD (putRegister rs rd t) j 0 ≡ getD rs j 0
     go true q f = rw (eqb-true j 0 q) (put-zero rs rd t ∙ sym z)
-    go false q (inl e) = let n = eqb-false j 0 q in outer n ∙ getD-set-other rs (rd % 32) j t 0 (λ g. n (g ∙ e))
-    go false q (inr n) = outer (eqb-false j 0 q) ∙ getD-set-other rs (rd % 32) j t 0 n
+    go false q (inl e) = let n = eqb-false j 0 q in put-far rs rd t j n (λ g. n (g ∙ e))
+    go false q (inr n) = put-far rs rd t j (eqb-false j 0 q) n
 
 -- the file shows it at its place alone
 module _ (rs : List ℕ) (h : Held rs) (rd t : ℕ) where
@@ -238,6 +245,7 @@ window-laws =
     record {
       placed = place-of;
       apart = places-apart;
+      own = places-own;
       overlap = next-ins;
       around = around-ins;
       current = current-so;

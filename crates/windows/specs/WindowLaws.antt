@@ -40,9 +40,11 @@ savesOf rd t zero rs = go rs
 savesOf rd t (suc n) rs = after (savesOf rd t n rs) (windowOf Save (rd n) (t n))
 
 pub record WindowLaws : Type 0 where
-  -- each register of each window stands at one place, no two of a window at the same; outs are the next window's ins, around the ring
+  -- "eight": each register of each window stands at one place, no two of a window at the same, and no two of the ins and locals of all eight; outs are
+  -- the next window's ins, around the ring
   pub placed : (w r : ℕ) → r < 32 → Place (placeOf w r)
   pub apart : (w r s : ℕ) → r < 32 → s < 32 → placeOf w r ≡ placeOf w s → r ≡ s
+  pub own : (w v r s : ℕ) → w < 8 → v < 8 → 16 ≤ r → r < 32 → 16 ≤ s → s < 32 → placeOf w r ≡ placeOf v s → (w ≡ v) × (r ≡ s)
   pub overlap : (w k : ℕ) → k < 8 → placeOf w (8 + k) ≡ placeOf (w + 1) (24 + k)
   pub around : (k : ℕ) → k < 8 → placeOf 7 (8 + k) ≡ placeOf 0 (24 + k)
   -- the registers that a word reads are the current window's

@@ -5,31 +5,31 @@ use crate::files::{listing_case, translate_case};
 use crate::random::TranslateCall;
 use crate::translator::bytes;
 
-const ADD: u32 = 0x8200_6001; // add 1 to register 1
+pub const ADD: u32 = 0x8200_6001; // add 1 to register 1
 const NOP: u32 = 0x0100_0000;
-const TA: u32 = 0x91D0_2000; // ta 0
+pub const TA: u32 = 0x91D0_2000; // ta 0
 const TN: u32 = 0x81D0_2000; // tn 0: a Ticc that is never taken
-const BA: u32 = 0x1080_0000;
+pub const BA: u32 = 0x1080_0000;
 const BE: u32 = 0x0280_0000;
-const BN: u32 = 0x0080_0000;
-const ANNUL: u32 = 0x2000_0000;
-const CALL: u32 = 0x4000_0000;
+pub const BN: u32 = 0x0080_0000;
+pub const ANNUL: u32 = 0x2000_0000;
+pub const CALL: u32 = 0x4000_0000;
 const RETURN: u32 = 0x81C3_E008; // jmpl register 15, constant 8, to register 0
-const LINK: u32 = 0x83C3_E008; // the same to register 1
+pub const LINK: u32 = 0x83C3_E008; // the same to register 1
 const LINK_BY_REGISTER: u32 = 0x83C3_C002; // jmpl registers 15 and 2, to register 1
-const ADD_REGISTER: u32 = 0x8200_4002; // add register 2 to register 1
+pub const ADD_REGISTER: u32 = 0x8200_4002; // add register 2 to register 1
 const SLL: u32 = 0x8328_6000; // sll register 1 by 0
 const SLL_REGISTER: u32 = 0x8328_4002; // sll register 1 by register 2
 const TN_REGISTER: u32 = 0x81D0_0002; // tn of registers 0 and 2
-const CONSTANT: u32 = 1 << 13;
+pub const CONSTANT: u32 = 1 << 13;
 const UMUL: u32 = 0x8250_4002; // umul of registers 1 and 2 to register 1
 const WRY: u32 = 0x8180_4002; // wry of registers 1 and 2
 const RDY: u32 = 0x8340_0000; // rdy to register 1
-const SAVE: u32 = 0x9DE3_8001; // save of registers 14 and 1 to register 14
-const RESTORE: u32 = 0x91EE_0001; // restore of registers 24 and 1 to register 8
-const ILLEGAL: u32 = 0;
+pub const SAVE: u32 = 0x9DE3_8001; // save of registers 14 and 1 to register 14
+pub const RESTORE: u32 = 0x91EE_0001; // restore of registers 24 and 1 to register 8
+pub const ILLEGAL: u32 = 0;
 const UNIMP: u32 = 12; // as gcc puts it behind the call of a function that returns 12 bytes
-const OTHER: u32 = 0x0040_0000; // illegal too, but its op2 is not 0
+pub const OTHER: u32 = 0x0040_0000; // illegal too, but its op2 is not 0
 
 /// 01's listing.
 const LISTED: [u32; 4] = [0x1080_0003, ADD, ILLEGAL, TA];
@@ -44,7 +44,7 @@ pub struct Edge {
 }
 
 /// A branch of this kind over so many words.
-fn over(branch: u32, words: i32) -> u32 {
+pub fn over(branch: u32, words: i32) -> u32 {
     branch | (words as u32 & 0x3F_FFFF)
 }
 
@@ -168,6 +168,25 @@ fn entries_around(base: u32) -> Vec<Edge> {
     accepted.into_iter().chain(refused).collect()
 }
 
+/// An image of one word: that word as entry and what lies around it; the place past it has a kind 7.
+fn one_word() -> Vec<Edge> {
+    let (base, past) = (0x1000, 0x1004);
+    let ta = |entries: &[u32], answer| edge(&[TA], base, entries, answer);
+    let add = |places, records, answer| edge(&[ADD], base, &[base], answer).lent(places, records);
+    let beside = [base - 4, base + 1, base + 2, base + 3, past];
+    let mut edges: Vec<Edge> = beside.map(|entry| ta(&[entry], (3, 1, 0))).into();
+    edges.extend([
+        ta(&[base], (0, 1, 1)),
+        ta(&[base, past], (3, 2, 0)),
+        ta(&[past, base], (3, 1, 0)),
+        // 1 and 5, then one 7
+        add(2 * PLACE, 3 * RECORD, (0, 2, 3)),
+        add(2 * PLACE - 1, 3 * RECORD, (5, past as u64, 0)),
+        add(2 * PLACE, 3 * RECORD - 1, (6, 3, 0)),
+    ]);
+    edges
+}
+
 /// Refusal 3, the position: lists with exactly one bad entry.
 fn one_bad_entry() -> Vec<Edge> {
     let words = [TA; 4];
@@ -271,6 +290,27 @@ fn held_branches() -> Vec<Edge> {
             )
         })
         .collect()
+}
+
+/// Bicc 0 in a place that is not held has one 5, to plain n or, with annul, to plain n + 4, and no place for its target.
+fn never_taken() -> Vec<Edge> {
+    let of = |words: &[u32], answer| edge(words, 0, &[0], answer);
+    let mut edges = vec![];
+    for branch in [BN, over(BN, 5)] {
+        let annulling = branch | ANNUL;
+        edges.extend([
+            // plain 0, plain 4; with annul plain 0, plain 8
+            of(&[branch, TA], (0, 2, 2)),
+            of(&[annulling, ILLEGAL, TA], (0, 2, 2)),
+            // plain 0, (4, 12), plain 12; with annul plain 16
+            of(&[over(BA, 3), branch, ADD, TA], (0, 3, 3)),
+            of(&[over(BA, 3), annulling, ADD, ADD, TA], (0, 3, 3)),
+            // plain 4, plain 0, plain 8, held 4: 5, then 3 and 5, 1, then 1 and 6
+            edge(&[RETURN, branch, TA], 0, &[4, 0], (0, 4, 6)),
+            edge(&[RETURN, annulling, TA], 0, &[4, 0], (4, 4, 0)),
+        ]);
+    }
+    edges
 }
 
 fn held_words() -> Vec<Edge> {
@@ -799,11 +839,13 @@ pub fn edges() -> Vec<Edge> {
         entries_around(0x1000),
         entries_around(0xFFFF_FFF8),
         entries_around(0xFFFF_FFF0),
+        one_word(),
         one_bad_entry(),
         several_bad_entries(),
         bad_counts_of_bad_entries(),
         held_branches(),
         held_words(),
+        never_taken(),
         first_events(),
         first_named(),
         first_named_elsewhere(),

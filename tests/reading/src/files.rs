@@ -1,9 +1,7 @@
 //! Files of cases: numbers of four bytes, big-endian; a byte area is padded with zeros to a multiple of four.
 //! The first number is how many cases follow.
 
-use crate::interface::{
-    new_begin_call, new_run_call, old_begin_call, old_run_call, translate_call,
-};
+use crate::interface::{new_begin_call, old_begin_call, translate_call};
 use crate::listing::listing;
 use crate::new_core::Program;
 use crate::old_core::Image;
@@ -63,10 +61,8 @@ pub fn old_run_case(mut call: OldRunCall) -> Vec<u8> {
         call.count as u32,
     ]);
     add_areas(&mut case, &[&call.state, &call.image, &call.data]);
-    let image = Image::at(call.base, &call.image);
-    let (state, data) = (&mut call.state, &mut call.data);
-    old_run_call(image, call.data_base, state, data, call.count);
-    add_areas(&mut case, &[state, data]);
+    call.run();
+    add_areas(&mut case, &[&call.state, &call.data]);
     case
 }
 
@@ -106,15 +102,8 @@ pub fn new_run_case(mut call: NewRunCall) -> Vec<u8> {
         &mut case,
         &[&call.state, &call.places, &call.records, &call.data],
     );
-    let program = Program {
-        records: &call.records,
-        places: &call.places,
-        base: call.base,
-        image_length: call.image_length,
-    };
-    let (state, data) = (&mut call.state, &mut call.data);
-    new_run_call(program, call.data_base, state, data, call.count);
-    add_areas(&mut case, &[state, data]);
+    call.run();
+    add_areas(&mut case, &[&call.state, &call.data]);
     case
 }
 

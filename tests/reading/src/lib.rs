@@ -30,5 +30,6 @@ pub mod random;
 
 pub mod calls;
 pub mod cases;
+pub mod core_edges;
 pub mod edges;
 pub mod files;

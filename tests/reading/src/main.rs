@@ -8,6 +8,8 @@
 //!                              new_core (runs), calls (all five functions of translator and cores, mixed)
 //!                              or words (read and written)
 //! reading file edges           calls of the translator at the edges of its answers, as such a file
+//! reading file old_edges       runs of the old core at the edges of its rules, as such a file; new_edges: of
+//!                              the new core
 //! reading file listings        inputs of the listing program with what it prints, as such a file
 //! reading listing              01's listing of the image on standard input
 //! reading translate BASE ENTRY...
@@ -73,6 +75,7 @@ use std::process::ExitCode;
 use reading::calls;
 use reading::cases::{random_case, Asked, Malformed};
 use reading::claim::{check, Accepted, Seen, Start};
+use reading::core_edges::{new_edges_file, old_edges_file};
 use reading::couples::Transfer;
 use reading::edges::{edges_file, listings_file};
 use reading::files::{new_run_case, old_run_case, translate_case};
@@ -101,6 +104,8 @@ fn main() -> ExitCode {
                 .map(|(s, c)| file(kind, s, c))
         }
         ["file", "edges"] => Some(whole_file(&edges_file())),
+        ["file", "old_edges"] => Some(whole_file(&old_edges_file())),
+        ["file", "new_edges"] => Some(whole_file(&new_edges_file())),
         ["file", "listings"] => Some(whole_file(&listings_file())),
         ["listing"] => Some(listing()),
         ["translate", base, ref entries @ ..] => address(base)
@@ -121,7 +126,7 @@ fn main() -> ExitCode {
             eprintln!("       reading claim SEED COUNT");
             eprintln!("       reading census SEED COUNT");
             eprintln!("       reading file translate|old_core|new_core|calls|words SEED COUNT");
-            eprintln!("       reading file edges|listings");
+            eprintln!("       reading file edges|old_edges|new_edges|listings");
             eprintln!("       reading listing < IMAGE");
             eprintln!("       reading translate BASE ENTRY... < IMAGE");
             ExitCode::from(2)

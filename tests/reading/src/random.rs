@@ -1,8 +1,9 @@
 //! Random images, entry lists, starts and calls, each determined by a seed.
 
 use crate::claim::{Accepted, Start};
+use crate::interface::{new_run_call, old_run_call};
 use crate::machine::WINDOWED;
-use crate::new_core::number;
+use crate::new_core::{self, number};
 use crate::old_core::{lies_in_image, Image};
 use crate::places::{made_by_the_rules, walk, Place, Stop};
 use crate::state::{NEW_STATE, OLD_STATE};
@@ -845,6 +846,15 @@ pub struct OldRunCall {
     pub count: u16,
 }
 
+impl OldRunCall {
+    /// What the call leaves in state and data; the end and the number beside it.
+    pub fn run(&mut self) -> (u32, u32) {
+        let image = Image::at(self.base, &self.image);
+        let (state, data) = (&mut self.state, &mut self.data);
+        old_run_call(image, self.data_base, state, data, self.count)
+    }
+}
+
 pub fn random_old_run_call(random: &mut Random) -> OldRunCall {
     let program = random_program(random);
     let plain = program.plain_addresses();
@@ -895,6 +905,20 @@ pub struct NewRunCall {
     pub state: [u8; NEW_STATE],
     pub data: Vec<u8>,
     pub count: u16,
+}
+
+impl NewRunCall {
+    /// What the call leaves in state and data; the end and the number beside it.
+    pub fn run(&mut self) -> (u32, u32) {
+        let program = new_core::Program {
+            records: &self.records,
+            places: &self.places,
+            base: self.base,
+            image_length: self.image_length,
+        };
+        let (state, data) = (&mut self.state, &mut self.data);
+        new_run_call(program, self.data_base, state, data, self.count)
+    }
 }
 
 pub fn random_new_run_call(random: &mut Random) -> NewRunCall {

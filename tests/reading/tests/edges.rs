@@ -2,6 +2,7 @@
 
 use std::fs;
 
+use reading::core_edges::{new_edges, new_edges_file, old_edges, old_edges_file, Edge};
 use reading::edges::{edges, edges_file, listings, listings_file};
 use reading::listing::listing;
 use reading::old_core::Image;
@@ -37,6 +38,50 @@ fn listings_are_those_by_hand() {
     }
 }
 
+/// What a run left, and its end, are those by hand.
+fn held_to<Program>(edge: &Edge<Program>, state: &[u8], data: &[u8], end: u32, position: usize) {
+    let by_hand = edge.answer();
+    assert!(state == by_hand.0, "edge {position}: {state:?}");
+    assert!(data == by_hand.1, "edge {position}");
+    assert_eq!(end, edge.end(), "edge {position}");
+}
+
+#[test]
+fn old_runs_are_those_by_hand() {
+    for (position, edge) in old_edges().iter().enumerate() {
+        let mut call = edge.call();
+        let (end, _) = call.run();
+        held_to(edge, &call.state, &call.data, end, position);
+    }
+}
+
+#[test]
+fn new_runs_are_those_by_hand() {
+    for (position, edge) in new_edges().iter().enumerate() {
+        let mut call = edge.call();
+        let (end, _) = call.run();
+        held_to(edge, &call.state, &call.data, end, position);
+    }
+}
+
+/// Every end of each core is there, but the traps of the old one.
+#[test]
+fn every_end_is_met() {
+    let old: Vec<u32> = old_edges().iter().map(|edge| edge.end()).collect();
+    let new: Vec<u32> = new_edges().iter().map(|edge| edge.end()).collect();
+    for (name, ends, known) in [
+        ("old", old, vec![0, 2, 3, 4, 5, 8, 9]),
+        ("new", new, (0..=9).collect()),
+    ] {
+        println!("{name}: {}", ends.len());
+        for end in known {
+            let met = ends.iter().filter(|met| **met == end).count();
+            println!("end {end}: {met}");
+            assert!(met > 0, "{name} core, end {end}");
+        }
+    }
+}
+
 /// Every answer's number is there, accepted ones too.
 #[test]
 fn every_answer_is_met() {
@@ -56,6 +101,8 @@ fn files_are_these() {
     let data = concat!(env!("CARGO_MANIFEST_DIR"), "/../../crates/cases/data/");
     for (name, made) in [
         ("edges.bin", edges_file()),
+        ("old_core_edges.bin", old_edges_file()),
+        ("new_core_edges.bin", new_edges_file()),
         ("listings.bin", listings_file()),
     ] {
         let stored = fs::read(format!("{data}{name}")).unwrap();
