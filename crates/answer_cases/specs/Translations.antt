@@ -4,21 +4,21 @@ use Rattle.numbers.specs.Choice.{pick}
 use Rattle.model.specs.Translation.{Back, returned, translation}
 use Rattle.case_files.specs.declared.Found.{Found}
 use Rattle.answer_cases.specs.declared.translation.Parts.{Parts}
-use Rattle.case_files.specs.Files.{number_in, part_of, paddedTo, holding, oneEntry}
+use Rattle.case_files.specs.Files.{number_in, part_of, padded_to, holding, one_entry}
 
 -- how many places or records a case has: those that its answer counts, and none beside a refusal
-abbrev pub countedIn : ℕ → ℕ → ℕ
-countedIn answer count = pick (eqb answer 0) count 0
+abbrev pub counted_in : ℕ → ℕ → ℕ
+counted_in answer count = pick (eqb answer 0) count 0
 
 -- nine numbers, an image, entries, places, records
-unfoldable pub translationParts : List ℕ → ℕ → Parts
-translationParts bytes at =
+unfoldable pub translation_parts : List ℕ → ℕ → Parts
+translation_parts bytes at =
     let extent = number_in bytes (at + 4) in
     let size = number_in bytes (at + 12) in
-    let rows = countedIn (number_in bytes (at + 24)) (number_in bytes (at + 28)) * 16 in
-    let bulk = countedIn (number_in bytes (at + 24)) (number_in bytes (at + 32)) * 12 in
-    let entries = at + 36 + paddedTo extent in
-    let places = entries + paddedTo size in
+    let rows = counted_in (number_in bytes (at + 24)) (number_in bytes (at + 28)) * 16 in
+    let bulk = counted_in (number_in bytes (at + 24)) (number_in bytes (at + 32)) * 12 in
+    let entries = at + 36 + padded_to extent in
+    let places = entries + padded_to size in
     record {
       image = at + 36;
       extent = extent;
@@ -41,40 +41,40 @@ pub record CheckedBoth : Type 0 where
   pub places : List ℕ
   pub records : List ℕ
 
-abbrev pub checkedBoth : Found → List ℕ → List ℕ → CheckedBoth
-checkedBoth verdict places records = record { verdict = verdict; places = places; records = records }
+abbrev pub checked_both : Found → List ℕ → List ℕ → CheckedBoth
+checked_both verdict places records = record { verdict = verdict; places = places; records = records }
 
 module _ (bytes : List ℕ) (at : ℕ) where
   -- what the translator is given: the case's image, its entries and its base, which is number 2
   abbrev pub image_of : List ℕ
-  image_of = let p = translationParts bytes at in part_of bytes p.image p.extent
+  image_of = let p = translation_parts bytes at in part_of bytes p.image p.extent
 
-  abbrev pub entriesOf : List ℕ
-  entriesOf = let p = translationParts bytes at in part_of bytes p.entries p.size
+  abbrev pub entries_of : List ℕ
+  entries_of = let p = translation_parts bytes at in part_of bytes p.entries p.size
 
   abbrev pub base_of : ℕ
   base_of = number_in bytes (at + 8)
 
   -- whether what is handed back is as known: the tag is TRNS, the buffers have the case's lengths, and the answer and both buffers are the
   -- known ones
-  unfoldable pub backAgrees : ℕ → ℕ → Back → Bool
-  backAgrees placesLength recordsLength b =
-      let p = translationParts bytes at in
+  unfoldable pub back_agrees : ℕ → ℕ → Back → Bool
+  back_agrees placesLength recordsLength b =
+      let p = translation_parts bytes at in
       let numbers = b.numbers in
       eqb (number_in bytes at) 0x54524E53 && eqb placesLength (number_in bytes (at + 16)) && eqb recordsLength (number_in bytes (at + 20))
       && answered (part_of bytes (at + 24) 12) (get_or numbers 0 0) (get_or numbers 1 0) (get_or numbers 2 0)
       && holding b.places (part_of bytes p.places p.rows) 0
       && holding b.records (part_of bytes p.records p.bulk) 0
 
-  unfoldable pub backFound : ℕ → ℕ → Back → CheckedBoth
-  backFound placesLength recordsLength b =
-      checkedBoth (oneEntry (translationParts bytes at).next (backAgrees placesLength recordsLength b)) b.places b.records
+  unfoldable pub back_found : ℕ → ℕ → Back → CheckedBoth
+  back_found placesLength recordsLength b =
+      checked_both (one_entry (translation_parts bytes at).next (back_agrees placesLength recordsLength b)) b.places b.records
 
   -- what a case finds in buffers of two lengths
-  unfoldable pub translationIn : ℕ → ℕ → CheckedBoth
-  translationIn placesLength recordsLength =
-      backFound placesLength recordsLength (returned (translation image_of base_of entriesOf placesLength recordsLength))
+  unfoldable pub translation_in : ℕ → ℕ → CheckedBoth
+  translation_in placesLength recordsLength =
+      back_found placesLength recordsLength (returned (translation image_of base_of entries_of placesLength recordsLength))
 
   -- in buffers of the case's lengths, or as long as there are here
-  unfoldable pub translationFound : Found
-  translationFound = (translationIn (min (number_in bytes (at + 16)) 131104) (min (number_in bytes (at + 20)) 196608)).verdict
+  unfoldable pub translation_found : Found
+  translation_found = (translation_in (min (number_in bytes (at + 16)) 131104) (min (number_in bytes (at + 20)) 196608)).verdict

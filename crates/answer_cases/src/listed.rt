@@ -1,7 +1,7 @@
 // A case of the listing library: the bytes that the listing program read, and all that it writes.
 ghost use Rattle.std.specs.Prelude.{◌≡◌, ◌+◌, ◌≤◌, length};
 ghost use Rattle.case_files.specs.Files.{holding};
-ghost use Rattle.answer_cases.specs.Listings.{listedFound};
+ghost use Rattle.answer_cases.specs.Listings.{listed_found};
 
 use case_files::{Found, holds, number, one, padded, part};
 
@@ -18,7 +18,7 @@ fn shows(out: &[u8; 131072], text: &[u8]) -> bool
 // Lists the case that starts at a position, in a buffer that held other bytes and keeps them past the listing. It has one entry.
 pub fn check(bytes: &[u8], at: usize) -> Found
     requires { at ≤ length bytes.now + 4 }
-    ensures { result ≡ listedFound bytes.now at }
+    ensures { result ≡ listed_found bytes.now at }
 {
     let extent = number(bytes, at + 4);
     let size = number(bytes, at + 8);

@@ -1,6 +1,6 @@
 // A case of the translator: an image, entries and the lengths of both buffers, and the answer with the places and the records that it counts.
 ghost use Rattle.std.specs.Prelude.{◌≡◌, ◌+◌, ◌≤◌, length, replicate};
-ghost use Rattle.answer_cases.specs.Translations.{countedIn, translationParts, answered, checkedBoth, translationIn, translationFound};
+ghost use Rattle.answer_cases.specs.Translations.{counted_in, translation_parts, answered, checked_both, translation_in, translation_found};
 
 use case_files::{Found, holds, least, number, one, padded, part};
 use pijorrel_translate::PijorrelAnswer;
@@ -29,7 +29,7 @@ struct Parts {
 
 // How many places or records a case has: those that its answer counts, and none beside a refusal.
 fn counted(answer: u32, count: u32) -> u32
-    ensures { result ≡ countedIn answer count }
+    ensures { result ≡ counted_in answer count }
 {
     if answer == 0 { count } else { 0 }
 }
@@ -37,7 +37,7 @@ fn counted(answer: u32, count: u32) -> u32
 // The parts of the case at a position: nine numbers, an image, entries, places, records.
 fn locate(bytes: &[u8], at: usize) -> Parts
     requires { at ≤ length bytes.now + 4 }
-    ensures { result ≡ translationParts bytes.now at }
+    ensures { result ≡ translation_parts bytes.now at }
 {
     let extent = number(bytes, at + 4);
     let size = number(bytes, at + 12);
@@ -73,7 +73,7 @@ fn answers(known: &[u8], r: PijorrelAnswer) -> bool
 // Runs the case that starts at a position, in buffers of its lengths. It has one entry.
 fn check_in(bytes: &[u8], at: usize, table: &mut [u8], list: &mut [u8]) -> Found
     requires { at ≤ length bytes.now + 4 }
-    ensures { checkedBoth result table.new list.new ≡ translationIn bytes.now at (length table.old) (length list.old) }
+    ensures { checked_both result table.new list.new ≡ translation_in bytes.now at (length table.old) (length list.old) }
 {
     let base = number(bytes, at + 8);
     let room = table.len() == number(bytes, at + 16) as usize;
@@ -110,7 +110,7 @@ fn used_list() -> [u8; LIST]
 // Runs the case that starts at a position. A case with longer buffers than there are here differs.
 pub fn check(bytes: &[u8], at: usize) -> Found
     requires { at ≤ length bytes.now + 4 }
-    ensures { result ≡ translationFound bytes.now at }
+    ensures { result ≡ translation_found bytes.now at }
 {
     let mut table = used_table();
     let mut list = used_list();

@@ -1,9 +1,9 @@
 // Arithmetic, logic, products and shifts, with the flags that their flag forms set.
 ghost use Rattle.std.specs.Prelude.{◌≡◌, ◌-◌, ◌*◌, ◌/◌, ◌%◌, ◌&&◌, eqb};
 ghost use Rattle.numbers.specs.Choice.{pick};
-ghost use Rattle.words.specs.Conditions.{nzvcOf};
-ghost use Rattle.machine.specs.Registers.{registerOf, putRegister, value_of};
-ghost use Rattle.arithmetic.specs.Arithmetic.{top, sumOverflow, sumCarry, differenceOverflow, differenceCarry, shifted_left, shifted_right, shiftedSigned, shift_of, carryOf, sum_of, differenceOf, logic_of, productOf, written, after, arithmeticOf};
+ghost use Rattle.words.specs.Conditions.{nzvc_of};
+ghost use Rattle.machine.specs.Registers.{register_of, put_register, value_of};
+ghost use Rattle.arithmetic.specs.Arithmetic.{top, sum_overflow, sum_carry, difference_overflow, difference_carry, shifted_left, shifted_right, shifted_signed, shift_of, carry_of, sum_of, difference_of, logic_of, product_of, written, after, arithmetic_of};
 
 use machine::registers::{File, put, put_y, reg, value};
 use machine::{Flags, bit};
@@ -41,7 +41,7 @@ fn srl(a: u32, b: u32) -> u32
 
 // The sign comes in from the left.
 fn sra(a: u32, b: u32) -> u32
-    ensures { result ≡ shiftedSigned a b }
+    ensures { result ≡ shifted_signed a b }
 {
     if top_bit(a) {
         complement(srl(complement(a), b))
@@ -52,39 +52,39 @@ fn sra(a: u32, b: u32) -> u32
 
 // V8's V and C, in its steps and order, from r[rs1]<31>, operand2<31> and result<31>: of a sum, then of a difference.
 fn sum_overflow(rs1: bool, operand2: bool, res: bool) -> bool
-    ensures { result ≡ sumOverflow rs1 operand2 res }
+    ensures { result ≡ sum_overflow rs1 operand2 res }
 {
     (rs1 & operand2 & !res) | (!rs1 & !operand2 & res)
 }
 
 fn sum_carry(rs1: bool, operand2: bool, res: bool) -> bool
-    ensures { result ≡ sumCarry rs1 operand2 res }
+    ensures { result ≡ sum_carry rs1 operand2 res }
 {
     (rs1 & operand2) | (!res & (rs1 | operand2))
 }
 
 fn difference_overflow(rs1: bool, operand2: bool, res: bool) -> bool
-    ensures { result ≡ differenceOverflow rs1 operand2 res }
+    ensures { result ≡ difference_overflow rs1 operand2 res }
 {
     (rs1 & !operand2 & !res) | (!rs1 & operand2 & res)
 }
 
 fn difference_carry(rs1: bool, operand2: bool, res: bool) -> bool
-    ensures { result ≡ differenceCarry rs1 operand2 res }
+    ensures { result ≡ difference_carry rs1 operand2 res }
 {
     (!rs1 & operand2) | (res & (!rs1 | operand2))
 }
 
 // The flags from a result, V and C.
 fn flags_with(r: u32, v: bool, c: bool) -> Flags
-    ensures { result.nzvc ≡ nzvcOf (top r) (eqb r 0) v c }
+    ensures { result.nzvc ≡ nzvc_of (top r) (eqb r 0) v c }
 {
     let n = bit(top_bit(r)) * 8 + bit(r == 0) * 4 + bit(v) * 2 + bit(c);
     Flags { nzvc: n }
 }
 
 fn sum_flags(a: u32, b: u32, r: u32) -> Flags
-    ensures { result.nzvc ≡ nzvcOf (top r) (eqb r 0) (sumOverflow (top a) (top b) (top r)) (sumCarry (top a) (top b) (top r)) }
+    ensures { result.nzvc ≡ nzvc_of (top r) (eqb r 0) (sum_overflow (top a) (top b) (top r)) (sum_carry (top a) (top b) (top r)) }
 {
     let rs1 = top_bit(a);
     let operand2 = top_bit(b);
@@ -97,7 +97,7 @@ fn sum_flags(a: u32, b: u32, r: u32) -> Flags
 }
 
 fn difference_flags(a: u32, b: u32, r: u32) -> Flags
-    ensures { result.nzvc ≡ nzvcOf (top r) (eqb r 0) (differenceOverflow (top a) (top b) (top r)) (differenceCarry (top a) (top b) (top r)) }
+    ensures { result.nzvc ≡ nzvc_of (top r) (eqb r 0) (difference_overflow (top a) (top b) (top r)) (difference_carry (top a) (top b) (top r)) }
 {
     let rs1 = top_bit(a);
     let operand2 = top_bit(b);
@@ -111,14 +111,14 @@ fn difference_flags(a: u32, b: u32, r: u32) -> Flags
 
 // C, as a number.
 fn carry(f: Flags) -> u32
-    ensures { result ≡ carryOf f.nzvc }
+    ensures { result ≡ carry_of f.nzvc }
 {
     f.nzvc & 1
 }
 
 // add and addx: k is what comes in from C.
 fn add_word(f: Flags, regs: &mut File, k: u32, cc: bool, rd: u32, rs1: u32, x: Operand) -> Flags
-    ensures { after result.nzvc regs.new ≡ written f.nzvc regs.old cc rd (sum_of (registerOf regs.old rs1) (value_of regs.old x) k) }
+    ensures { after result.nzvc regs.new ≡ written f.nzvc regs.old cc rd (sum_of (register_of regs.old rs1) (value_of regs.old x) k) }
 {
     let a = reg(regs, rs1);
     let b = value(regs, x);
@@ -140,7 +140,7 @@ fn subtract_word(
     rs1: u32,
     x: Operand,
 ) -> Flags
-    ensures { after result.nzvc regs.new ≡ written f.nzvc regs.old cc rd (differenceOf (registerOf regs.old rs1) (value_of regs.old x) k) }
+    ensures { after result.nzvc regs.new ≡ written f.nzvc regs.old cc rd (difference_of (register_of regs.old rs1) (value_of regs.old x) k) }
 {
     let a = reg(regs, rs1);
     let b = value(regs, x);
@@ -203,7 +203,7 @@ fn multiply_word(
     rs1: u32,
     x: Operand,
 ) -> Flags
-    ensures { after result.nzvc regs.new ≡ written f.nzvc regs.old cc rd (productOf sign (registerOf regs.old rs1) (value_of regs.old x)) }
+    ensures { after result.nzvc regs.new ≡ written f.nzvc regs.old cc rd (product_of sign (register_of regs.old rs1) (value_of regs.old x)) }
 {
     let a = reg(regs, rs1);
     let b = value(regs, x);
@@ -226,7 +226,7 @@ pub fn operate(
     rs1: u32,
     x: Operand,
 ) -> Flags
-    ensures { after result.nzvc regs.new ≡ arithmeticOf f.nzvc regs.old o cc rd rs1 x }
+    ensures { after result.nzvc regs.new ≡ arithmetic_of f.nzvc regs.old o cc rd rs1 x }
 {
     match o {
         Operation::Add => add_word(f, regs, 0, cc, rd, rs1, x),
@@ -246,7 +246,7 @@ pub fn operate(
 
 // A shift sets no flag.
 pub fn shift(regs: &mut File, o: ShiftOperation, rd: u32, rs1: u32, x: Operand)
-    ensures { regs.new ≡ putRegister regs.old rd (shift_of o (registerOf regs.old rs1) (value_of regs.old x)) }
+    ensures { regs.new ≡ put_register regs.old rd (shift_of o (register_of regs.old rs1) (value_of regs.old x)) }
 {
     match o {
         ShiftOperation::Sll => put(regs, rd, sll(reg(regs, rs1), value(regs, x))),

@@ -4,6 +4,6 @@ use mathlib.Core.Bool.{Bool, true, false}
 use mathlib.Core.Path.{◌≡◌, refl}
 use Rattle.numbers.specs.Choice.{pick}
 
-pub bit-of : (b : Bool) → bool_byte b ≡ pick b 1 0
-bit-of true = refl
-bit-of false = refl
+pub bit_of_lem : (b : Bool) → bool_byte b ≡ pick b 1 0
+bit_of_lem true = refl
+bit_of_lem false = refl

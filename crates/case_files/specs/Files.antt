@@ -2,7 +2,7 @@
 use Rattle.std.specs.Prelude.{ℕ, ◌+◌, ◌-◌, ◌*◌, ◌/◌, Bool, true, false, ◌&&◌, List, [], ◌∷◌, ◌++◌, eqb, leb, length, take, drop, replicate}
 use Rattle.numbers.specs.Choice.{pick}
 use Rattle.numbers.specs.Number.{number_at}
-use Rattle.model.specs.StateBytes.{oldSize}
+use Rattle.model.specs.StateBytes.{old_size}
 use Rattle.case_files.specs.declared.Found.{Found}
 use Rattle.case_files.specs.declared.Parts.{Parts}
 
@@ -15,30 +15,30 @@ abbrev pub part_of : List ℕ → ℕ → ℕ → List ℕ
 part_of bytes start n = take n (drop start bytes)
 
 -- the bytes that an area of n takes in a file: a multiple of four
-abbrev pub paddedTo : ℕ → ℕ
-paddedTo n = (n + 3) / 4 * 4
+abbrev pub padded_to : ℕ → ℕ
+padded_to n = (n + 3) / 4 * 4
 
 -- an area over which as many bytes are copied as both have
 unfoldable pub copied : List ℕ → List ℕ → List ℕ
 copied area from = take (length area) from ++ drop (length from) area
 
 -- whether two areas have the same bytes
-unfoldable pub sameBytes : List ℕ → List ℕ → Bool
-sameBytes [] [] = true
-sameBytes [] (y ∷ ys) = false
-sameBytes (x ∷ xs) [] = false
-sameBytes (x ∷ xs) (y ∷ ys) = eqb x y && sameBytes xs ys
+unfoldable pub same_bytes : List ℕ → List ℕ → Bool
+same_bytes [] [] = true
+same_bytes [] (y ∷ ys) = false
+same_bytes (x ∷ xs) [] = false
+same_bytes (x ∷ xs) (y ∷ ys) = eqb x y && same_bytes xs ys
 
 -- whether an area starts with known bytes and has one byte alone past them
 unfoldable pub holding : List ℕ → List ℕ → ℕ → Bool
-holding area known past = sameBytes area (known ++ replicate (length area - length known) past)
+holding area known past = same_bytes area (known ++ replicate (length area - length known) past)
 
 abbrev pub found : ℕ → ℕ → Bool → Found
 found next entries agrees = record { next = next; entries = entries; agrees = agrees }
 
 -- the verdict on a case of one entry
-unfoldable pub oneEntry : ℕ → Bool → Found
-oneEntry next agrees = found next (pick agrees 1 0) agrees
+unfoldable pub one_entry : ℕ → Bool → Found
+one_entry next agrees = found next (pick agrees 1 0) agrees
 
 -- a verdict, and what the lent area then holds
 pub record Checked : Type 0 where
@@ -49,18 +49,18 @@ abbrev pub checked : Found → List ℕ → Checked
 checked verdict area = record { verdict = verdict; area = area }
 
 -- a case of the old core, or a trail: six numbers, a state, an image, data, so many bytes of answers, data
-unfoldable pub oldParts : List ℕ → ℕ → ℕ → Parts
-oldParts bytes at answers =
+unfoldable pub old_parts : List ℕ → ℕ → ℕ → Parts
+old_parts bytes at answers =
     let extent = number_in bytes (at + 4) in
     let size = number_in bytes (at + 16) in
-    let before = at + 24 + oldSize + paddedTo extent in
-    let known = before + paddedTo size in
+    let before = at + 24 + old_size + padded_to extent in
+    let known = before + padded_to size in
     record {
-      image = at + 24 + oldSize;
+      image = at + 24 + old_size;
       extent = extent;
       before = before;
       size = size;
       known = known;
       after = known + answers;
-      next = known + answers + paddedTo size;
+      next = known + answers + padded_to size;
     }

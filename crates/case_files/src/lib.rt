@@ -1,6 +1,6 @@
 // Files of cases: numbers of four bytes, big-endian, and byte areas padded to a multiple of four.
 ghost use Rattle.std.specs.Prelude.{◌≡◌, ◌+◌, ◌≤◌, ◌<◌, ◌^◌, min, length, get_or};
-ghost use Rattle.case_files.specs.Files.{number_in, part_of, paddedTo, copied, holding, oneEntry, oldParts};
+ghost use Rattle.case_files.specs.Files.{number_in, part_of, padded_to, copied, holding, one_entry, old_parts};
 
 use states::OLD_STATE;
 
@@ -15,7 +15,7 @@ pub struct Found {
 
 // The verdict on a case of one entry.
 pub fn one(next: usize, agrees: bool) -> Found
-    ensures { result ≡ oneEntry next agrees }
+    ensures { result ≡ one_entry next agrees }
 {
     Found {
         next,
@@ -64,7 +64,7 @@ pub fn number(bytes: &[u8], at: usize) -> u32
 
 // The bytes that an area takes in the file.
 pub fn padded(n: u32) -> usize
-    ensures { result ≡ paddedTo n }
+    ensures { result ≡ padded_to n }
 {
     (n as usize + 3) / 4 * 4
 }
@@ -119,7 +119,7 @@ pub fn holds(area: &[u8], known: &[u8], past: u8) -> bool
 // The parts of the case at a position: six numbers, a state, an image, data, so many bytes of answers, data.
 pub fn locate(bytes: &[u8], at: usize, answers: usize) -> Parts
     requires { (at ≤ length bytes.now + 4) × (answers < 2 ^ 40) }
-    ensures { result ≡ oldParts bytes.now at answers }
+    ensures { result ≡ old_parts bytes.now at answers }
 {
     let extent = number(bytes, at + 4);
     let size = number(bytes, at + 16);

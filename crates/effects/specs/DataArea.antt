@@ -1,13 +1,13 @@
 -- 01, The old core: "Data is one lent area .. at a data base, big-endian".
 use Rattle.std.specs.Prelude.{ℕ, ◌+◌, ◌*◌, ◌/◌, ◌%◌, Bool, true, false, List, leb, eqb, length, get_or, set}
 use Rattle.numbers.specs.Choice.{pick}
-use Rattle.numbers.specs.Number.{minus, signed, number_at, putNumber}
+use Rattle.numbers.specs.Number.{minus, signed, number_at, put_number}
 use Rattle.words.specs.declared.LoadOperation.{LoadOperation}
 use Rattle.words.specs.declared.LoadOperation.TheVariants.{Ld, Ldub, Lduh, Ldsb, Ldsh}
 use Rattle.words.specs.declared.Width.{Width}
 use Rattle.words.specs.declared.Width.TheVariants.{Byte, Half, Word}
 use Rattle.machine.specs.Ends.{ending, Next, go, halt}
-use Rattle.machine.specs.Registers.{putRegister}
+use Rattle.machine.specs.Registers.{put_register}
 
 -- bytes that a load or a store moves
 unfoldable pub size_of : Width → ℕ
@@ -22,10 +22,10 @@ value_at Half area at = get_or area at 0 * 256 + get_or area (at + 1) 0
 value_at Word area at = number_at area at
 
 -- the area with a number's low bytes at a position
-unfoldable pub putValue : Width → List ℕ → ℕ → ℕ → List ℕ
-putValue Byte area at v = set area at (v % 256)
-putValue Half area at v = set (set area at (v / 256 % 256)) (at + 1) (v % 256)
-putValue Word area at v = putNumber area at v
+unfoldable pub put_value : Width → List ℕ → ℕ → ℕ → List ℕ
+put_value Byte area at v = set area at (v % 256)
+put_value Half area at v = set (set area at (v / 256 % 256)) (at + 1) (v % 256)
+put_value Word area at v = put_number area at v
 
 -- what each load moves, and whether it extends the sign
 unfoldable pub width_of : LoadOperation → Width
@@ -54,8 +54,8 @@ access w db t area made =
 
 -- from an address to a register: the registers
 unfoldable pub load_of : Width → Bool → ℕ → List ℕ → ℕ → ℕ → List ℕ → Next (List ℕ)
-load_of w sign db area rd t rs = access w db t area (putRegister rs rd (loaded_at w sign area (minus t db)))
+load_of w sign db area rd t rs = access w db t area (put_register rs rd (loaded_at w sign area (minus t db)))
 
 -- a number to an address: the area
 unfoldable pub store_of : Width → ℕ → ℕ → ℕ → List ℕ → Next (List ℕ)
-store_of w db v t area = access w db t area (putValue w area (minus t db) v)
+store_of w db v t area = access w db t area (put_value w area (minus t db) v)

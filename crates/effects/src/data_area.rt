@@ -4,8 +4,8 @@ ghost use Rattle.numbers.specs.Choice.{pick};
 ghost use Rattle.numbers.specs.Number.{signed};
 ghost use Rattle.words.specs.declared.Width.TheVariants.{Byte, Half, Word};
 ghost use Rattle.machine.specs.Ends.{left, settle};
-ghost use Rattle.machine.specs.Registers.{registerOf, address_of};
-ghost use Rattle.effects.specs.DataArea.{width_of, sign_of, load_of, store_of, value_at, putValue};
+ghost use Rattle.machine.specs.Registers.{register_of, address_of};
+ghost use Rattle.effects.specs.DataArea.{width_of, sign_of, load_of, store_of, value_at, put_value};
 
 use machine::End;
 use machine::registers::{File, address, put, reg};
@@ -27,7 +27,7 @@ fn half_at(area: &[u8], at: usize) -> u32
 
 fn put_half(area: &mut [u8], at: usize, v: u32)
     requires { at + 2 ≤ length area.old }
-    ensures { area.new ≡ putValue Half area.old at v }
+    ensures { area.new ≡ put_value Half area.old at v }
 {
     area[at] = (v / 256 % 256) as u8;
     area[at + 1] = (v % 256) as u8;
@@ -154,7 +154,7 @@ pub fn load(
 }
 
 pub fn store(w: Width, db: u32, regs: &File, area: &mut [u8], rd: u32, rs1: u32, x: Operand) -> End
-    ensures { left area.new result ≡ settle area.old (store_of w db (registerOf regs.now rd) (address_of regs.now rs1 x) area.old) }
+    ensures { left area.new result ≡ settle area.old (store_of w db (register_of regs.now rd) (address_of regs.now rs1 x) area.old) }
 {
     match w {
         Width::Byte => store_byte(db, reg(regs, rd), area, address(regs, rs1, x)),

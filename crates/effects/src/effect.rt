@@ -3,7 +3,7 @@ ghost use Rattle.std.specs.Prelude.{◌≡◌};
 ghost use Rattle.words.specs.Conditions.{holds_of};
 ghost use Rattle.machine.specs.declared.End.TheVariants.{Going};
 ghost use Rattle.machine.specs.Ends.{left, settle};
-ghost use Rattle.effects.specs.Effect.{machine, trapOf, effect_of};
+ghost use Rattle.effects.specs.Effect.{machine, trap_of, effect_of};
 
 use crate::data_area::{load, store};
 use arithmetic::{operate, shift};
@@ -21,7 +21,7 @@ pub fn holds(f: Flags, cond: u32) -> bool
 
 // The end that a Ticc meets, if its condition holds.
 fn trap(f: Flags, regs: &File, cond: u32, rs1: u32, x: Operand) -> End
-    ensures { left tt result ≡ settle tt (trapOf f.nzvc regs.now cond rs1 x) }
+    ensures { left tt result ≡ settle tt (trap_of f.nzvc regs.now cond rs1 x) }
 {
     if holds(f, cond) {
         let t = address(regs, rs1, x);

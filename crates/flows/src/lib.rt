@@ -4,13 +4,13 @@ ghost use Rattle.numbers.specs.Choice.{find};
 ghost use Rattle.words.specs.declared.Operand.{Operand};
 ghost use Rattle.words.specs.declared.Sources.{Sources};
 ghost use Rattle.words.specs.declared.Instruction.TheVariants.{Ticc, Rdy, Wry};
-ghost use Rattle.words.specs.Reader.{bits, registerStrays, rdyStrays, wryStrays, strictly, format0Of, none2, otherRows, format2Of, format3Of, instructionOf};
-ghost use Rattle.words.specs.Flow.{operandStrays, flow_of, isKnown};
+ghost use Rattle.words.specs.Reader.{bits, register_strays, rdy_strays, wry_strays, strictly, format0_of, none2, other_rows, format2_of, format3_of, instruction_of};
+ghost use Rattle.words.specs.Flow.{operand_strays, flow_of, is_known};
 
 use words::Flow;
 
 fn flow0(word: u32) -> Flow
-    ensures { result ≡ flow_of (format0Of word) }
+    ensures { result ≡ flow_of (format0_of word) }
 {
     let k = words::op2(word);
     match k {
@@ -26,7 +26,7 @@ fn flow0(word: u32) -> Flow
 
 // Where a register's number or a shift's constant stands, bits 12 to 5 are unused; most words have them clear.
 fn operand_strays(op3: u32, word: u32) -> bool
-    ensures { result ≡ operandStrays op3 word }
+    ensures { result ≡ operand_strays op3 word }
 {
     if words::high8(word) == 0 {
         return false;
@@ -38,7 +38,7 @@ fn operand_strays(op3: u32, word: u32) -> bool
 }
 
 fn trap_flow(cond: u32, word: u32) -> Flow
-    requires { registerStrays word ≡ false }
+    requires { register_strays word ≡ false }
     ensures { (rs1 : ℕ) (x : Operand) → result ≡ flow_of (strictly word (Ticc cond rs1 x)) }
 {
     if words::trap_strays(word) {
@@ -60,7 +60,7 @@ fn rdy_flow(word: u32) -> Flow
 }
 
 fn wry_flow(word: u32) -> Flow
-    requires { registerStrays word ≡ false }
+    requires { register_strays word ≡ false }
     ensures { (s : Sources) → result ≡ flow_of (strictly word (Wry s)) }
 {
     if words::rd(word) != 0 {
@@ -70,8 +70,8 @@ fn wry_flow(word: u32) -> Flow
 }
 
 fn other_flow2(op3: u32, cond: u32, rd: u32, word: u32) -> Flow
-    requires { (operandStrays op3 word ≡ false) × (op3 ≡ 40 → rdyStrays word ≡ false) × (op3 ≡ 48 → wryStrays word ≡ false) }
-    ensures { (rs1 : ℕ) (x : Operand) → result ≡ flow_of (strictly word (find otherRows none2 op3 cond rd rs1 x)) }
+    requires { (operand_strays op3 word ≡ false) × (op3 ≡ 40 → rdy_strays word ≡ false) × (op3 ≡ 48 → wry_strays word ≡ false) }
+    ensures { (rs1 : ℕ) (x : Operand) → result ≡ flow_of (strictly word (find other_rows none2 op3 cond rd rs1 x)) }
 {
     match op3 {
         37 => Flow::Continues,
@@ -88,8 +88,8 @@ fn other_flow2(op3: u32, cond: u32, rd: u32, word: u32) -> Flow
 }
 
 fn flow2(op3: u32, cond: u32, rd: u32, word: u32) -> Flow
-    requires { (operandStrays op3 word ≡ false) × (op3 ≡ 40 → rdyStrays word ≡ false) × (op3 ≡ 48 → wryStrays word ≡ false) }
-    ensures { (rs1 : ℕ) (x : Operand) → result ≡ flow_of (strictly word (format2Of op3 cond rd rs1 x)) }
+    requires { (operand_strays op3 word ≡ false) × (op3 ≡ 40 → rdy_strays word ≡ false) × (op3 ≡ 48 → wry_strays word ≡ false) }
+    ensures { (rs1 : ℕ) (x : Operand) → result ≡ flow_of (strictly word (format2_of op3 cond rd rs1 x)) }
 {
     match op3 {
         0 => Flow::Continues,
@@ -122,8 +122,8 @@ fn flow2(op3: u32, cond: u32, rd: u32, word: u32) -> Flow
 
 // Rdy and wry, whose unused bits are their own, are told before the others: in the arms they made `read_flow` too large to go inline.
 fn flow2_or_y(op3: u32, word: u32) -> Flow
-    requires { operandStrays op3 word ≡ false }
-    ensures { (rs1 : ℕ) (x : Operand) → result ≡ flow_of (strictly word (format2Of op3 (bits word 25 4) (bits word 25 5) rs1 x)) }
+    requires { operand_strays op3 word ≡ false }
+    ensures { (rs1 : ℕ) (x : Operand) → result ≡ flow_of (strictly word (format2_of op3 (bits word 25 4) (bits word 25 5) rs1 x)) }
 {
     if op3 == 40 {
         return rdy_flow(word);
@@ -135,7 +135,7 @@ fn flow2_or_y(op3: u32, word: u32) -> Flow
 }
 
 fn flow3(op3: u32) -> Flow
-    ensures { (rd rs1 : ℕ) (x : Operand) → result ≡ flow_of (format3Of op3 rd rs1 x) }
+    ensures { (rd rs1 : ℕ) (x : Operand) → result ≡ flow_of (format3_of op3 rd rs1 x) }
 {
     match op3 {
         0 => Flow::Continues,
@@ -152,7 +152,7 @@ fn flow3(op3: u32) -> Flow
 
 // What a word does to control. The translator asks no more of a word, and an operand that is not read costs nothing.
 pub fn read_flow(word: u32) -> Flow
-    ensures { result ≡ flow_of (instructionOf word) }
+    ensures { result ≡ flow_of (instruction_of word) }
 {
     let k = words::op(word);
     if k < 2 {
@@ -172,7 +172,7 @@ pub fn read_flow(word: u32) -> Flow
 
 // Whether a flow is that of a known word.
 fn is_known(f: Flow) -> bool
-    ensures { result ≡ isKnown f }
+    ensures { result ≡ is_known f }
 {
     match f {
         Flow::Faults => false,
@@ -182,13 +182,13 @@ fn is_known(f: Flow) -> bool
 
 // Whether a word of format 2 or 3 with this op3 is known, where no unused bit is set.
 pub fn is_form2(op3: u32) -> bool
-    ensures { (rs1 : ℕ) (x : Operand) → result ≡ isKnown (flow_of (format2Of op3 0 0 rs1 x)) }
+    ensures { (rs1 : ℕ) (x : Operand) → result ≡ is_known (flow_of (format2_of op3 0 0 rs1 x)) }
 {
     is_known(flow2(op3, 0, 0, 0))
 }
 
 pub fn is_form3(op3: u32) -> bool
-    ensures { (rd rs1 : ℕ) (x : Operand) → result ≡ isKnown (flow_of (format3Of op3 rd rs1 x)) }
+    ensures { (rd rs1 : ℕ) (x : Operand) → result ≡ is_known (flow_of (format3_of op3 rd rs1 x)) }
 {
     is_known(flow3(op3))
 }

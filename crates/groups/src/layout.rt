@@ -2,10 +2,10 @@
 ghost use Rattle.std.specs.Prelude.{◌≡◌, Bool, ℕ, ◌*◌, ◌≤◌, ◌<◌, length};
 ghost use Rattle.numbers.specs.Choice.{pick};
 ghost use Rattle.model.specs.declared.Place.TheVariants.{Pair, Held};
-ghost use Rattle.model.specs.Places.{whichOf};
-ghost use Rattle.model.specs.Records.{biccGroup, group_of, heldGroupOf, group, inFull};
+ghost use Rattle.model.specs.Places.{which_of};
+ghost use Rattle.model.specs.Records.{bicc_group, group_of, held_group_of, group, in_full};
 ghost use Rattle.places.specs.Control.{transferred};
-ghost use Rattle.places.specs.Table.{placesIn, ShowsIn, SameRow};
+ghost use Rattle.places.specs.Table.{places_in, ShowsIn, SameRow};
 ghost use Rattle.groups.specs.Layout.{size, Laid};
 
 use machine::SourcePc;
@@ -15,7 +15,7 @@ use words::Flow;
 
 // How many records a branch has: one where its condition is settled.
 fn branch_size(cond: u32) -> usize
-    ensures { (annul : Bool) (t n : ℕ) → result ≡ size (biccGroup (whichOf cond) cond annul t n) }
+    ensures { (annul : Bool) (t n : ℕ) → result ≡ size (bicc_group (which_of cond) cond annul t n) }
 {
     if cond == 0 {
         return 1;
@@ -28,7 +28,7 @@ fn branch_size(cond: u32) -> usize
 
 // How many records a word has, at a place or held.
 fn word_size(f: Flow, held: bool) -> usize
-    ensures { (word p n : ℕ) → result ≡ size (pick held (heldGroupOf (transferred f) word p) (group_of (transferred f) word p n)) }
+    ensures { (word p n : ℕ) → result ≡ size (pick held (held_group_of (transferred f) word p) (group_of (transferred f) word p n)) }
 {
     match f {
         Flow::Faults => 1,
@@ -59,7 +59,7 @@ fn group_size(image: &[u8], base: u32, p: SourcePc, held: bool) -> usize
 // Sets the first record of each place, in place order, and answers the records in all.
 pub fn lay_out(image: &[u8], base: u32, places: &mut [u8], count: usize) -> usize
     requires { (16 * count ≤ length places.old) × (count ≤ 8192) × ((i : ℕ) → i < count → ShowsIn places.old i) }
-    ensures { Laid (inFull image.now base) (placesIn places.old count) count places.new result × ((i : ℕ) → i < count → SameRow places.new places.old i) }
+    ensures { Laid (in_full image.now base) (places_in places.old count) count places.new result × ((i : ℕ) → i < count → SameRow places.new places.old i) }
 {
     let mut n: usize = 0;
     let mut i: usize = 0;

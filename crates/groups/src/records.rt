@@ -1,15 +1,15 @@
 // The records of all groups, three numbers each, big-endian, in bytes that the caller lends. What is put is typed, so that a record's number
 // and a source address, both numbers once written, cannot stand for each other.
 ghost use Rattle.std.specs.Prelude.{◌≡◌, ℕ, ◌+◌, ◌*◌, ◌≤◌, ◌<◌, [], ◌∷◌, ◌++◌, length};
-ghost use Rattle.numbers.specs.Number.{numbersOf};
+ghost use Rattle.numbers.specs.Number.{numbers_of};
 ghost use Rattle.model.specs.declared.Place.{Place};
 ghost use Rattle.model.specs.declared.Place.TheVariants.{Pair, Held};
-ghost use Rattle.model.specs.Places.{plain, whichOf};
-ghost use Rattle.model.specs.Records.{inFull, biccGroup, group_of, heldGroupOf, group, past, recordNumbers, recordsNumbers, recordsFrom};
+ghost use Rattle.model.specs.Places.{plain, which_of};
+ghost use Rattle.model.specs.Records.{in_full, bicc_group, group_of, held_group_of, group, past, record_numbers, records_numbers, records_from};
 ghost use Rattle.places.specs.Control.{transferred};
-ghost use Rattle.places.specs.Table.{place_of, place_in, placesIn, Shows};
+ghost use Rattle.places.specs.Table.{place_of, place_in, places_in, Shows};
 ghost use Rattle.places.specs.Index.{Tabled};
-ghost use Rattle.groups.specs.Layout.{Counts, recorded, firstIn, needed, Puts};
+ghost use Rattle.groups.specs.Layout.{Counts, recorded, first_in, needed, Puts};
 
 use machine::{SourcePc, TargetPc, further};
 use model::target;
@@ -48,7 +48,7 @@ fn first_record(
     kind: u32,
 ) -> TargetPc
     requires { Counts e places.now heads.now links.now × Shows p.0 n.0 kind }
-    ensures { result.0 ≡ firstIn places.now e.count e.total (place_of p.0 n.0 kind) }
+    ensures { result.0 ≡ first_in places.now e.count e.total (place_of p.0 n.0 kind) }
 {
     let j = find(places, heads, links, e.count, p, n, kind);
     if j < e.count {
@@ -65,7 +65,7 @@ fn first_of_plain(
     p: SourcePc,
 ) -> TargetPc
     requires { Counts e places.now heads.now links.now }
-    ensures { result.0 ≡ firstIn places.now e.count e.total (plain p.0) }
+    ensures { result.0 ≡ first_in places.now e.count e.total (plain p.0) }
 {
     first_record(places, heads, links, e, p, further(p, 4), 0)
 }
@@ -79,7 +79,7 @@ fn first_of_pair(
     n: SourcePc,
 ) -> TargetPc
     requires { Counts e places.now heads.now links.now }
-    ensures { result.0 ≡ firstIn places.now e.count e.total (Pair p.0 n.0) }
+    ensures { result.0 ≡ first_in places.now e.count e.total (Pair p.0 n.0) }
 {
     first_record(places, heads, links, e, p, n, pair_kind(p, n))
 }
@@ -89,7 +89,7 @@ fn first_of_pair(
 struct Triple(u32, u32, u32);
 
 fn numbers_of(x: Record) -> Triple
-    ensures { result.0 ∷ result.1 ∷ result.2 ∷ [] ≡ recordNumbers (recorded x) [] }
+    ensures { result.0 ∷ result.1 ∷ result.2 ∷ [] ≡ record_numbers (recorded x) [] }
 {
     match x {
         Record::DoWord(word) => Triple(1, word, 0),
@@ -105,7 +105,7 @@ fn numbers_of(x: Record) -> Triple
 // Puts record `at`.
 fn put_record(records: &mut [u8], at: usize, x: Record)
     requires { 12 * at + 12 ≤ length records.old }
-    ensures { numbersOf records.new (3 * at + 3) ≡ numbersOf records.old (3 * at) ++ recordsNumbers (recorded x ∷ []) }
+    ensures { numbers_of records.new (3 * at + 3) ≡ numbers_of records.old (3 * at) ++ records_numbers (recorded x ∷ []) }
 {
     let n = numbers_of(x);
     numbers::write_number(records, 12 * at, n.0);
@@ -116,7 +116,7 @@ fn put_record(records: &mut [u8], at: usize, x: Record)
 // Puts a group of one record, and answers where the next group comes.
 fn put_one(records: &mut [u8], at: usize, x: Record) -> usize
     requires { 12 * at + 12 ≤ length records.old }
-    ensures { (result ≡ at + 1) × (numbersOf records.new (3 * result) ≡ numbersOf records.old (3 * at) ++ recordsNumbers (recorded x ∷ [])) }
+    ensures { (result ≡ at + 1) × (numbers_of records.new (3 * result) ≡ numbers_of records.old (3 * at) ++ records_numbers (recorded x ∷ [])) }
 {
     put_record(records, at, x);
     at + 1
@@ -125,7 +125,7 @@ fn put_one(records: &mut [u8], at: usize, x: Record) -> usize
 // Puts a group of two records, and answers where the next group comes.
 fn put_two(records: &mut [u8], at: usize, x: Record, y: Record) -> usize
     requires { 12 * at + 24 ≤ length records.old }
-    ensures { (result ≡ at + 2) × (numbersOf records.new (3 * result) ≡ numbersOf records.old (3 * at) ++ recordsNumbers (recorded x ∷ recorded y ∷ [])) }
+    ensures { (result ≡ at + 2) × (numbers_of records.new (3 * result) ≡ numbers_of records.old (3 * at) ++ records_numbers (recorded x ∷ recorded y ∷ [])) }
 {
     put_record(records, at, x);
     put_record(records, at + 1, y);
@@ -145,8 +145,8 @@ fn put_branch(
     t: SourcePc,
     n: SourcePc,
 ) -> usize
-    requires { Counts e places.now heads.now links.now × (12 * past (biccGroup (whichOf cond) cond annul t.0 n.0) at ≤ length records.old) }
-    ensures { Puts (firstIn places.now e.count e.total) (biccGroup (whichOf cond) cond annul t.0 n.0) at records.old records.new result }
+    requires { Counts e places.now heads.now links.now × (12 * past (bicc_group (which_of cond) cond annul t.0 n.0) at ≤ length records.old) }
+    ensures { Puts (first_in places.now e.count e.total) (bicc_group (which_of cond) cond annul t.0 n.0) at records.old records.new result }
 {
     if cond == 0 {
         let f = first_of_plain(places, heads, links, e, untaken(annul, n));
@@ -179,7 +179,7 @@ fn put_word(
     n: SourcePc,
 ) -> usize
     requires { Counts e places.now heads.now links.now × (12 * past (group_of (transferred f) word p.0 n.0) at ≤ length records.old) }
-    ensures { Puts (firstIn places.now e.count e.total) (group_of (transferred f) word p.0 n.0) at records.old records.new result }
+    ensures { Puts (first_in places.now e.count e.total) (group_of (transferred f) word p.0 n.0) at records.old records.new result }
 {
     match f {
         Flow::Faults => put_one(records, at, Record::Stop(3, p)),
@@ -205,8 +205,8 @@ fn put_word(
 
 // Puts the group of a word held at p.
 fn put_held(records: &mut [u8], at: usize, f: Flow, word: u32, p: SourcePc) -> usize
-    requires { 12 * past (heldGroupOf (transferred f) word p.0) at ≤ length records.old }
-    ensures { (first : Place → ℕ) → Puts first (heldGroupOf (transferred f) word p.0) at records.old records.new result }
+    requires { 12 * past (held_group_of (transferred f) word p.0) at ≤ length records.old }
+    ensures { (first : Place → ℕ) → Puts first (held_group_of (transferred f) word p.0) at records.old records.new result }
 {
     match f {
         Flow::Faults => put_one(records, at, Record::Stop(3, p)),
@@ -236,7 +236,7 @@ fn put_group(
     i: usize,
 ) -> usize
     requires { Counts e places.now heads.now links.now × (i < e.count) × (12 * past (group image.now base (place_in places.now i)) at ≤ length records.old) }
-    ensures { Puts (firstIn places.now e.count e.total) (group image.now base (place_in places.now i)) at records.old records.new result }
+    ensures { Puts (first_in places.now e.count e.total) (group image.now base (place_in places.now i)) at records.old records.new result }
 {
     let p = address(places, i);
     let f = fetch(image, base, p);
@@ -264,8 +264,8 @@ pub fn put_groups(
     total: usize,
     records: &mut [u8],
 )
-    requires { Tabled places.now count heads.now links.now × (total ≡ needed (inFull image.now base) (placesIn places.now count)) × (12 * total ≤ length records.old) }
-    ensures { numbersOf records.new (3 * total) ≡ recordsNumbers (recordsFrom (inFull image.now base) (firstIn places.now count total) (placesIn places.now count)) }
+    requires { Tabled places.now count heads.now links.now × (total ≡ needed (in_full image.now base) (places_in places.now count)) × (12 * total ≤ length records.old) }
+    ensures { numbers_of records.new (3 * total) ≡ records_numbers (records_from (in_full image.now base) (first_in places.now count total) (places_in places.now count)) }
 {
     let e = Extent { count, total };
     let mut at: usize = 0;

@@ -1,13 +1,13 @@
 -- 01, One listing in full: its text, byte for byte, computed from the definitions.
-use Rattle.numbers.specs.Number.{plus, minus, signed, number_at, bytes_of, numbersOf, up_to}
-use Rattle.words.specs.Reader.{bits, bitSet, operandOf, format0Of, format2Of, format3Of, setFrom, registerStrays, rdyStrays, wryStrays, unusedSet, strictly, byFormat, instructionOf}
-use Rattle.model.specs.OldCore.{inImage, word_in, transferOf, target}
-use Rattle.model.specs.Places.{kind_of, next_of, placeAt, samePlace, member, whichOf, biccNames, names, names_at, followers, mayBeHeldAt, mayBeHeld, idleBicc, allowed, plains}
+use Rattle.numbers.specs.Number.{plus, minus, signed, number_at, bytes_of, numbers_of, up_to}
+use Rattle.words.specs.Reader.{bits, bit_set, operand_of, format0_of, format2_of, format3_of, set_from, register_strays, rdy_strays, wry_strays, unused_set, strictly, by_format, instruction_of}
+use Rattle.model.specs.OldCore.{in_image, word_in, transfer_of, target}
+use Rattle.model.specs.Places.{kind_of, next_of, place_at, same_place, member, which_of, bicc_names, names, names_at, followers, may_be_held_at, may_be_held, idle_bicc, allowed, plains}
 use Rattle.model.specs.Walk.{grow, grown, tested, handle, walk, places_of}
-use Rattle.model.specs.Records.{numbersIn, biccGroup, group_of, heldGroupOf, groupAt, heldGroupAt, group, past, numbered, put, first, rows_from, recordsFrom, rows_of, recordsOf, tableNumbers, recordNumbers, recordsNumbers}
-use Rattle.model.specs.Translation.{badLength, badCount, badEntry, firstBad, placeRoom, filled, refusal, acceptance, fromWalk, translation}
-use Rattle.listing.specs.Text.{decimalBy, decimal, separator, line_of}
-use Rattle.listing.specs.Listing.{placeLines, recordLines, tables, refusalText, answerText, listingOf}
+use Rattle.model.specs.Records.{numbers_in, bicc_group, group_of, held_group_of, group_at, held_group_at, group, past, numbered, put, first, rows_from, records_from, rows_of, records_of, table_numbers, record_numbers, records_numbers}
+use Rattle.model.specs.Translation.{bad_length, bad_count, bad_entry, first_bad, place_room, filled, refusal, acceptance, from_walk, translation}
+use Rattle.listing.specs.Text.{decimal_by, decimal, separator, line_of}
+use Rattle.listing.specs.Listing.{place_lines, record_lines, tables, refusal_text, answer_text, listing_of}
 use mathlib.Core.Path.{◌≡◌, refl}
 use mathlib.Core.List.{List, [], ◌∷◌}
 use Prim.Native.Nat.{ℕ}
@@ -28,6 +28,6 @@ text =
     ∷ 53 ∷ 32 ∷ 51 ∷ 32 ∷ 48 ∷ 10
     ∷ 49 ∷ 32 ∷ 50 ∷ 52 ∷ 52 ∷ 54 ∷ 51 ∷ 51 ∷ 54 ∷ 48 ∷ 48 ∷ 48 ∷ 32 ∷ 48 ∷ 10 ∷ []
 
-pub listing-of-01 : listingOf image ≡ text
-unfolding listingOf answerText tables placeLines recordLines line_of decimal decimalBy separator refusalText translation fromWalk acceptance refusal filled placeRoom badLength badCount badEntry firstBad numbersIn places_of walk handle tested grown grow plains allowed mayBeHeldAt mayBeHeld idleBicc followers names_at names biccNames whichOf member samePlace placeAt next_of kind_of rows_of recordsOf rows_from recordsFrom first put numbered past group groupAt heldGroupAt group_of heldGroupOf biccGroup tableNumbers recordsNumbers recordNumbers numbersOf up_to word_in inImage transferOf target instructionOf byFormat format0Of format2Of format3Of setFrom registerStrays rdyStrays wryStrays unusedSet strictly operandOf bits bitSet signed plus minus number_at bytes_of
-listing-of-01 = refl
+pub listing_of_01 : listing_of image ≡ text
+unfolding listing_of answer_text tables place_lines record_lines line_of decimal decimal_by separator refusal_text translation from_walk acceptance refusal filled place_room bad_length bad_count bad_entry first_bad numbers_in places_of walk handle tested grown grow plains allowed may_be_held_at may_be_held idle_bicc followers names_at names bicc_names which_of member same_place place_at next_of kind_of rows_of records_of rows_from records_from first put numbered past group group_at held_group_at group_of held_group_of bicc_group table_numbers records_numbers record_numbers numbers_of up_to word_in in_image transfer_of target instruction_of by_format format0_of format2_of format3_of set_from register_strays rdy_strays wry_strays unused_set strictly operand_of bits bit_set signed plus minus number_at bytes_of
+listing_of_01 = refl

@@ -1,6 +1,6 @@
 -- Laws of lines: one number after another, one place or record after another.
 use Rattle.numbers.specs.Number.{number_at}
-use Rattle.listing.proofs.Writing.{written-more, goes_on, written_one}
+use Rattle.listing.proofs.Writing.{written_more, goes_on, written_one}
 use borrow.Author.Tests.{ltb-true, ltb-false}
 use lib.Seq.{drop-cons, take_all}
 use lib.ListN.{length, get_or, drop, set, drop_of_length-le, take, length-drop}
@@ -11,75 +11,75 @@ use mathlib.Core.List.{List, [], ◌∷◌, ◌++◌, append_assoc}
 use mathlib.Core.Bool.{Bool, true, false}
 use mathlib.Core.Path.{◌≡◌, refl, sym, ◌∙◌}
 use Prim.Native.Nat.{ℕ, suc, ◌+◌, ◌*◌, ◌-◌, ◌≤◌, ◌<◌}
-use Rattle.listing.specs.Text.{decimal, separator, someLeft, line_of, inserted, Written}
-use Rattle.listing.specs.Listing.{placeLines, recordLines}
+use Rattle.listing.specs.Text.{decimal, separator, some_left, line_of, inserted, Written}
+use Rattle.listing.specs.Listing.{place_lines, record_lines}
 
 -- whether a number is left tells what follows the last one
-some_left : (l : List ℕ) (n : ℕ) → someLeft (drop n l) ≡ ltb n (length l)
-some_left l n = go (ltb n (length l)) refl
+some_left_lem : (l : List ℕ) (n : ℕ) → some_left (drop n l) ≡ ltb n (length l)
+some_left_lem l n = go (ltb n (length l)) refl
   where
-    go : (b : Bool) → ltb n (length l) ≡ b → someLeft (drop n l) ≡ b
+    go : (b : Bool) → ltb n (length l) ≡ b → some_left (drop n l) ≡ b
     go true e = rw (drop-cons l n 0 (ltb-true n (length l) e))
     go false e = rw (drop_of_length-le l {i = n} (ltb-false n (length l) e))
 
-line-turn : (l : List ℕ) (j : ℕ) → j < length l
+line_turn : (l : List ℕ) (j : ℕ) → j < length l
     → line_of (drop j l) ≡ (decimal (get_or l j 0) ++ (separator (ltb (j + 1) (length l)) ∷ [])) ++ line_of (drop (j + 1) l)
 unfolding line_of
-line-turn l j h =
-    rw (drop-cons l j 0 h, add-one j, some_left l (suc j))
+line_turn l j h =
+    rw (drop-cons l j 0 h, add-one j, some_left_lem l (suc j))
     (sym (append_assoc (decimal (get_or l j 0)) (separator (ltb (suc j) (length l)) ∷ []) (line_of (drop (suc j) l))))
 
 -- a number and what follows it are put
-pub line-goes : {out out1 : List ℕ} {k k1 x : ℕ} (l : List ℕ) (j : ℕ) {T : List ℕ} {N : ℕ} → j < length l → k ≤ length out → k1 < length out1
+pub line_goes : {out out1 : List ℕ} {k k1 x : ℕ} (l : List ℕ) (j : ℕ) {T : List ℕ} {N : ℕ} → j < length l → k ≤ length out → k1 < length out1
     → Written out k (decimal (get_or l j 0)) 20 out1 k1 → x ≡ separator (ltb (j + 1) (length l))
     → inserted out k (line_of (drop j l)) ≡ T → k + length (line_of (drop j l)) ≡ N
     → (inserted (set out1 k1 x) (k1 + 1) (line_of (drop (j + 1) l)) ≡ T) × (k1 + 1 + length (line_of (drop (j + 1) l)) ≡ N)
-line-goes {out} {out1} {k} {k1} {x} l j {T} {N} h o r w ex e n =
-    let y = written-more o w (written_one out1 k1 x r) in
-    let z = rw (line-turn l j h, ← ex) at e in
-    let m = rw (line-turn l j h, ← ex) at n in
+line_goes {out} {out1} {k} {k1} {x} l j {T} {N} h o r w ex e n =
+    let y = written_more o w (written_one out1 k1 x r) in
+    let z = rw (line_turn l j h, ← ex) at e in
+    let m = rw (line_turn l j h, ← ex) at n in
     goes_on (line_of (drop (j + 1) l)) T N o y z m
 
-pub line-end : (l : List ℕ) (j : ℕ) → length l ≤ j → line_of (drop j l) ≡ []
+pub line_end : (l : List ℕ) (j : ℕ) → length l ≤ j → line_of (drop j l) ≡ []
 unfolding line_of
-line-end l j h = rw (drop_of_length-le l {i = j} h)
+line_end l j h = rw (drop_of_length-le l {i = j} h)
 
 -- a line for place i, or record i, and those after it
 module _ (bytes : List ℕ) (count i : ℕ) (h : i < count) where
   left : count - i ≡ suc (count - (i + 1))
   left = omega arith
 
-  pub place-turn : {a n k f : ℕ} → a ≡ number_at bytes (16 * i) → n ≡ number_at bytes (16 * i + 4) → k ≡ number_at bytes (16 * i + 8)
+  pub place_turn : {a n k f : ℕ} → a ≡ number_at bytes (16 * i) → n ≡ number_at bytes (16 * i + 4) → k ≡ number_at bytes (16 * i + 8)
       → f ≡ number_at bytes (16 * i + 12)
-      → placeLines bytes (count - i) i ≡ line_of (i ∷ a ∷ n ∷ k ∷ f ∷ []) ++ placeLines bytes (count - (i + 1)) (i + 1)
-  unfolding placeLines
-  place-turn ea en ek ef = rw (left, add-one i, ea, en, ek, ef)
+      → place_lines bytes (count - i) i ≡ line_of (i ∷ a ∷ n ∷ k ∷ f ∷ []) ++ place_lines bytes (count - (i + 1)) (i + 1)
+  unfolding place_lines
+  place_turn ea en ek ef = rw (left, add-one i, ea, en, ek, ef)
 
-  pub record-turn : {k a b : ℕ} → k ≡ number_at bytes (12 * i) → a ≡ number_at bytes (12 * i + 4) → b ≡ number_at bytes (12 * i + 8)
-      → recordLines bytes (count - i) i ≡ line_of (k ∷ a ∷ b ∷ []) ++ recordLines bytes (count - (i + 1)) (i + 1)
-  unfolding recordLines
-  record-turn ek ea eb = rw (left, add-one i, ek, ea, eb)
+  pub record_turn : {k a b : ℕ} → k ≡ number_at bytes (12 * i) → a ≡ number_at bytes (12 * i + 4) → b ≡ number_at bytes (12 * i + 8)
+      → record_lines bytes (count - i) i ≡ line_of (k ∷ a ∷ b ∷ []) ++ record_lines bytes (count - (i + 1)) (i + 1)
+  unfolding record_lines
+  record_turn ek ea eb = rw (left, add-one i, ek, ea, eb)
 
 module _ (bytes : List ℕ) (count i : ℕ) (h : count ≤ i) where
   none : count - i ≡ 0
   none = omega arith
 
-  pub no-place-lines : placeLines bytes (count - i) i ≡ []
-  unfolding placeLines
-  no-place-lines = rw none
+  pub no_place_lines : place_lines bytes (count - i) i ≡ []
+  unfolding place_lines
+  no_place_lines = rw none
 
-  pub no-record-lines : recordLines bytes (count - i) i ≡ []
-  unfolding recordLines
-  no-record-lines = rw none
+  pub no_record_lines : record_lines bytes (count - i) i ≡ []
+  unfolding record_lines
+  no_record_lines = rw none
 
 -- a text within a larger bound
-pub written-within : {out out1 text : List ℕ} {at m n r : ℕ} → length text ≤ n → Written out at text m out1 r → Written out at text n out1 r
-written-within h x = record { bytes = x.bytes; end = x.end; fits = h }
+pub written_within : {out out1 text : List ℕ} {at m n r : ℕ} → length text ≤ n → Written out at text m out1 r → Written out at text n out1 r
+written_within h x = record { bytes = x.bytes; end = x.end; fits = h }
 
 -- the digits at the end of a text of 20 bytes are put
-pub digits-put : {out out1 : List ℕ} {at r : ℕ} (text : List ℕ) (i v : ℕ) → drop i text ≡ decimal v
+pub digits_put : {out out1 : List ℕ} {at r : ℕ} (text : List ℕ) (i v : ℕ) → drop i text ≡ decimal v
     → Written out at (take (20 - i) (drop i text)) (length (take (20 - i) (drop i text))) out1 r → length text ≡ 20 → Written out at (decimal v) 20 out1 r
-digits-put text i v e w n =
+digits_put text i v e w n =
     let t : take (20 - i) (drop i text) ≡ decimal v = take_all (20 - i) (drop i text) (simp length-drop (omega arith)) ∙ e in
     let l : length (decimal v) ≤ 20 = rw (← e) (simp length-drop (omega arith)) in
-    written-within l (rw t at w)
+    written_within l (rw t at w)

@@ -10,18 +10,18 @@ use mathlib.Core.Path.{◌≡◌, refl, sym, ap, ◌∙◌}
 use Prim.Native.Nat.{ℕ, ◌+◌, ◌≤◌, ◌<◌, suc}
 use Rattle.listing.specs.Text.{inserted, Written}
 
-pub inserted-none : (out : List ℕ) (at : ℕ) → inserted out at [] ≡ out
+pub inserted_none : (out : List ℕ) (at : ℕ) → inserted out at [] ≡ out
 unfolding inserted
-inserted-none out at = rw (add-zero at, append-nil (take at out)) (take-append-drop at out)
+inserted_none out at = rw (add-zero at, append-nil (take at out)) (take-append-drop at out)
 
-pub inserted-one : (out : List ℕ) (at x : ℕ) → at < length out → set out at x ≡ inserted out at (x ∷ [])
+pub inserted_one : (out : List ℕ) (at x : ℕ) → at < length out → set out at x ≡ inserted out at (x ∷ [])
 unfolding inserted
-inserted-one out at x h = rw (add-one at, append_assoc (take at out) (x ∷ []) (drop (suc at) out)) (set_split out at x h)
+inserted_one out at x h = rw (add-one at, append_assoc (take at out) (x ∷ []) (drop (suc at) out)) (set_split out at x h)
 
-pub inserted-more : (out : List ℕ) (at : ℕ) (a b : List ℕ) → at ≤ length out
+pub inserted_more : (out : List ℕ) (at : ℕ) (a b : List ℕ) → at ≤ length out
     → inserted (inserted out at a) (at + length a) b ≡ inserted out at (a ++ b)
 unfolding inserted
-inserted-more out at a b h =
+inserted_more out at a b h =
     let p = take at out ++ a in
     let q = drop (at + length a) out in
     let n : length p ≡ at + length a = simp (length-append, length-take-le at out h) in
@@ -32,11 +32,11 @@ inserted-more out at a b h =
     rw (t, d, length-append a b) (simp append_assoc)
 
 -- a text and another behind it
-pub written-more : {out out1 out2 a b : List ℕ} {at m n k r : ℕ} → at ≤ length out → Written out at a m out1 k → Written out1 k b n out2 r
+pub written_more : {out out1 out2 a b : List ℕ} {at m n k r : ℕ} → at ≤ length out → Written out at a m out1 k → Written out1 k b n out2 r
     → Written out at (a ++ b) (m + n) out2 r
-written-more {out} {out1} {out2} {a} {b} {at} h x y =
+written_more {out} {out1} {out2} {a} {b} {at} h x y =
     record {
-      bytes = y.bytes ∙ rw (x.bytes, x.end) (inserted-more out at a b h);
+      bytes = y.bytes ∙ rw (x.bytes, x.end) (inserted_more out at a b h);
       end = y.end ∙ rw (x.end, length-append a b) (omega arith);
       fits = simp length-append (omega (arith, x.fits, y.fits));
     }
@@ -45,13 +45,13 @@ written-more {out} {out1} {out2} {a} {b} {at} h x y =
 pub goes_on : {out out1 a : List ℕ} {k k1 m : ℕ} (rest T : List ℕ) (N : ℕ) → k ≤ length out → Written out k a m out1 k1
     → inserted out k (a ++ rest) ≡ T → k + length (a ++ rest) ≡ N → (inserted out1 k1 rest ≡ T) × (k1 + length rest ≡ N)
 goes_on {out} {out1} {a} {k} rest T N h x e l =
-    (rw (x.bytes, x.end) (inserted-more out k a rest h ∙ e), rw x.end (omega (arith, length-append a rest)))
+    (rw (x.bytes, x.end) (inserted_more out k a rest h ∙ e), rw x.end (omega (arith, length-append a rest)))
 
 -- one byte is a text
 pub written_one : (out : List ℕ) (at x : ℕ) → at < length out → Written out at (x ∷ []) 1 (set out at x) (at + 1)
-written_one out at x h = record { bytes = inserted-one out at x h; end = refl; fits = omega arith }
+written_one out at x h = record { bytes = inserted_one out at x h; end = refl; fits = omega arith }
 
-pub written-end : {out out1 : List ℕ} {at most r : ℕ} (text : List ℕ) → inserted out1 r [] ≡ inserted out at text → r + 0 ≡ at + length text → r ≤ at + most
+pub written_end : {out out1 : List ℕ} {at most r : ℕ} (text : List ℕ) → inserted out1 r [] ≡ inserted out at text → r + 0 ≡ at + length text → r ≤ at + most
     → Written out at text most out1 r
-written-end {out} {out1} {at} {most} {r} text e l f =
-    record { bytes = sym (inserted-none out1 r) ∙ e; end = omega arith; fits = omega arith }
+written_end {out} {out1} {at} {most} {r} text e l f =
+    record { bytes = sym (inserted_none out1 r) ∙ e; end = omega arith; fits = omega arith }

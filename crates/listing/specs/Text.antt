@@ -3,27 +3,27 @@ use Rattle.std.specs.Prelude.{ℕ, zero, suc, ◌+◌, ◌/◌, ◌%◌, ◌≤�
 use Rattle.numbers.specs.Choice.{pick}
 
 -- the decimal digits of a number, the most significant first; n bounds how many there are
-unfoldable pub decimalBy : ℕ → ℕ → List ℕ
-decimalBy zero v = []
-decimalBy (suc n) v =
-    let more = decimalBy n (v / 10) ++ ((48 + v % 10) ∷ []) in
+unfoldable pub decimal_by : ℕ → ℕ → List ℕ
+decimal_by zero v = []
+decimal_by (suc n) v =
+    let more = decimal_by n (v / 10) ++ ((48 + v % 10) ∷ []) in
     pick (ltb v 10) ((48 + v) ∷ []) more
 
 unfoldable pub decimal : ℕ → List ℕ
-decimal v = decimalBy (suc v) v
+decimal v = decimal_by (suc v) v
 
 -- a space before another number, the line's end after the last
 unfoldable pub separator : Bool → ℕ
 separator true = 32
 separator false = 10
 
-abbrev pub someLeft : List ℕ → Bool
-someLeft [] = false
-someLeft (v ∷ vs) = true
+abbrev pub some_left : List ℕ → Bool
+some_left [] = false
+some_left (v ∷ vs) = true
 
 unfoldable pub line_of : List ℕ → List ℕ
 line_of [] = []
-line_of (v ∷ vs) = decimal v ++ (separator (someLeft vs) ∷ line_of vs)
+line_of (v ∷ vs) = decimal v ++ (separator (some_left vs) ∷ line_of vs)
 
 -- a buffer with a text at a position
 unfoldable pub inserted : List ℕ → ℕ → List ℕ → List ℕ

@@ -1,9 +1,9 @@
 // The listing: all that the listing program writes, for the bytes that it read.
 ghost use Rattle.std.specs.Prelude.{◌≡◌, ◌+◌, ◌*◌, ◌≤◌, [], ◌∷◌, length};
 ghost use Rattle.numbers.specs.Number.{number_at};
-ghost use Rattle.translator.specs.Handing.{placesCounted, recordsCounted};
+ghost use Rattle.translator.specs.Handing.{places_counted, records_counted};
 ghost use Rattle.listing.specs.Text.{Written};
-ghost use Rattle.listing.specs.Listing.{placeLines, recordLines, tables, refusalText, answerText, Listed};
+ghost use Rattle.listing.specs.Listing.{place_lines, record_lines, tables, refusal_text, answer_text, Listed};
 
 use model::Answer;
 use text::{put_bytes, put_line};
@@ -20,7 +20,7 @@ fn number(bytes: &[u8], at: usize) -> u64
 // Puts a line for each of the first places of a table.
 fn put_places(out: &mut [u8], at: usize, places: &[u8], count: usize) -> usize
     requires { (16 * count ≤ length places.now) × (at + 105 * count ≤ length out.old) }
-    ensures { Written out.old at (placeLines places.now count 0) (105 * count) out.new result }
+    ensures { Written out.old at (place_lines places.now count 0) (105 * count) out.new result }
 {
     let mut k = at;
     let mut i: usize = 0;
@@ -39,7 +39,7 @@ fn put_places(out: &mut [u8], at: usize, places: &[u8], count: usize) -> usize
 // Puts a line for each of the first records of a list.
 fn put_records(out: &mut [u8], at: usize, records: &[u8], count: usize) -> usize
     requires { (12 * count ≤ length records.now) × (at + 63 * count ≤ length out.old) }
-    ensures { Written out.old at (recordLines records.now count 0) (63 * count) out.new result }
+    ensures { Written out.old at (record_lines records.now count 0) (63 * count) out.new result }
 {
     let mut k = at;
     let mut i: usize = 0;
@@ -68,7 +68,7 @@ fn put_tables(out: &mut [u8], places: &[u8], n: usize, records: &[u8], m: usize)
 // Puts a refusal's number and its value under their names.
 fn put_refusal(out: &mut [u8], number: u64, detail: u64) -> usize
     requires { 57 ≤ length out.old }
-    ensures { Written out.old 0 (refusalText (number ∷ detail ∷ [])) 57 out.new result }
+    ensures { Written out.old 0 (refusal_text (number ∷ detail ∷ [])) 57 out.new result }
 {
     let a = put_bytes(out, 0, b"refused detail\n");
     let row = [number, detail];
@@ -77,8 +77,8 @@ fn put_refusal(out: &mut [u8], number: u64, detail: u64) -> usize
 
 // Puts what a translation answered and left in its buffers.
 fn put_answer(out: &mut [u8], a: Answer, places: &[u8], records: &[u8]) -> usize
-    requires { (16 * placesCounted a ≤ length places.now) × (12 * recordsCounted a ≤ length records.now) × (length places.now ≤ 8192) × (length records.now ≤ 12288) × (131072 ≤ length out.old) }
-    ensures { Written out.old 0 (answerText a places.now records.now) 131072 out.new result }
+    requires { (16 * places_counted a ≤ length places.now) × (12 * records_counted a ≤ length records.now) × (length places.now ≤ 8192) × (length records.now ≤ 12288) × (131072 ≤ length out.old) }
+    ensures { Written out.old 0 (answer_text a places.now records.now) 131072 out.new result }
 {
     match a {
         Answer::Accepted(n, m) => put_tables(out, places, n as usize, records, m as usize),

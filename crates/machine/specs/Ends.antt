@@ -11,33 +11,33 @@ pub data Ending : Type 0 where
 -- 01's number and value for each case: "0 still going .. the number beside it is 0. 1 Ticc taken .. 2 outside the image ..
 -- 3 illegal .. 4 misaligned and 5 data access that does not fit .. 6 no place .. 7 a record .." 02, N11: "Two ends are added after 7: 8, too many
 -- saves; 9, too many restores, each with the nesting."
-unfoldable pub endingOf : End → Ending
-endingOf Going = ending 0 0
-endingOf (TrapTaken v) = ending 1 v
-endingOf (Outside p) = ending 2 p.0
-endingOf (IllegalWord p) = ending 3 p.0
-endingOf (Misaligned v) = ending 4 v
-endingOf (Unfit v) = ending 5 v
-endingOf (NoPlace p) = ending 6 p.0
-endingOf (BadRecord r) = ending 7 r.0
-endingOf (TooManySaves w) = ending 8 w
-endingOf (TooManyRestores w) = ending 9 w
+unfoldable pub ending_of : End → Ending
+ending_of Going = ending 0 0
+ending_of (TrapTaken v) = ending 1 v
+ending_of (Outside p) = ending 2 p.0
+ending_of (IllegalWord p) = ending 3 p.0
+ending_of (Misaligned v) = ending 4 v
+ending_of (Unfit v) = ending 5 v
+ending_of (NoPlace p) = ending 6 p.0
+ending_of (BadRecord r) = ending 7 r.0
+ending_of (TooManySaves w) = ending 8 w
+ending_of (TooManyRestores w) = ending 9 w
 
 -- of two numbers in a state that no core may have written, an end but 1 to 9 counts as still going
-unfoldable pub endingFrom : ℕ → ℕ → Ending
-endingFrom n v = pick (eqb n 0) (ending 0 0) (pick (leb n 9) (ending n v) (ending 0 0))
+unfoldable pub ending_from : ℕ → ℕ → Ending
+ending_from n v = pick (eqb n 0) (ending 0 0) (pick (leb n 9) (ending n v) (ending 0 0))
 
-unfoldable pub isGoing : End → Bool
-isGoing Going = true
-isGoing (TrapTaken v) = false
-isGoing (Outside p) = false
-isGoing (IllegalWord p) = false
-isGoing (Misaligned v) = false
-isGoing (Unfit v) = false
-isGoing (NoPlace p) = false
-isGoing (BadRecord r) = false
-isGoing (TooManySaves w) = false
-isGoing (TooManyRestores w) = false
+unfoldable pub is_going : End → Bool
+is_going Going = true
+is_going (TrapTaken v) = false
+is_going (Outside p) = false
+is_going (IllegalWord p) = false
+is_going (Misaligned v) = false
+is_going (Unfit v) = false
+is_going (NoPlace p) = false
+is_going (BadRecord r) = false
+is_going (TooManySaves w) = false
+is_going (TooManyRestores w) = false
 
 -- what a word or a step does: the run goes on with what it made, or it ends
 pub data Next (S : Type 0) : Type 0 where
@@ -57,7 +57,7 @@ abbrev pub live : {S : Type 0} → S → State S
 live s = state s (ending 0 0)
 
 abbrev pub left : {S : Type 0} → S → End → State S
-left s e = state s (endingOf e)
+left s e = state s (ending_of e)
 
 -- "Ends 1 to 7 change no register, flag, counter, held address or data." 02, N4, of Y: "no end changes it"; N11, of 8 and 9: "ends the run and
 -- changes nothing"

@@ -2,7 +2,7 @@
 ghost use Rattle.std.specs.Prelude.{◌≡◌, ◌<◌};
 ghost use Rattle.numbers.specs.Number.{plus};
 ghost use Rattle.words.specs.Conditions.{bit_of};
-ghost use Rattle.machine.specs.Ends.{ending, endingOf, endingFrom, isGoing};
+ghost use Rattle.machine.specs.Ends.{ending, ending_of, ending_from, is_going};
 
 pub mod registers;
 
@@ -51,7 +51,7 @@ pub enum End {
 }
 
 pub fn is_going(e: End) -> bool
-    ensures { result ≡ isGoing e }
+    ensures { result ≡ is_going e }
 {
     match e {
         End::Going => true,
@@ -68,7 +68,7 @@ pub struct Ended {
 }
 
 pub fn numbers_of(e: End) -> Ended
-    ensures { ending result.end result.number ≡ endingOf e }
+    ensures { ending result.end result.number ≡ ending_of e }
 {
     match e {
         End::Going => Ended { end: 0, number: 0 },
@@ -98,7 +98,7 @@ pub fn numbers_of(e: End) -> Ended
 
 // The end of two numbers in a state's bytes: any number but 1 to 9 counts as still going.
 pub fn end_from(end: u32, v: u32) -> End
-    ensures { endingOf result ≡ endingFrom end v }
+    ensures { ending_of result ≡ ending_from end v }
 {
     match end {
         1 => End::TrapTaken(v),

@@ -1,7 +1,7 @@
 // The register file: the 32 registers, and behind them Y, the nesting and the windows. Register 0 holds 0 at the start of a run, and each write
 // leaves it so.
 ghost use Rattle.std.specs.Prelude.{◌≡◌};
-ghost use Rattle.machine.specs.Registers.{registerOf, putRegister, yOf, put_y, value_of, address_of};
+ghost use Rattle.machine.specs.Registers.{register_of, put_register, y_of, put_y, value_of, address_of};
 
 use words::Operand;
 
@@ -11,19 +11,19 @@ pub const FILE: usize = 162;
 pub type File = [u32; FILE];
 
 fn reg_at(regs: &File, i: usize) -> u32
-    ensures { result ≡ registerOf regs.now i }
+    ensures { result ≡ register_of regs.now i }
 {
     regs[i % 32]
 }
 
 pub fn reg(regs: &File, i: u32) -> u32
-    ensures { result ≡ registerOf regs.now i }
+    ensures { result ≡ register_of regs.now i }
 {
     reg_at(regs, i as usize)
 }
 
 pub fn put(regs: &mut File, i: u32, v: u32)
-    ensures { regs.new ≡ putRegister regs.old i v }
+    ensures { regs.new ≡ put_register regs.old i v }
 {
     let k = (i % 32) as usize;
     regs[k] = v;
@@ -31,7 +31,7 @@ pub fn put(regs: &mut File, i: u32, v: u32)
 }
 
 pub fn y(regs: &File) -> u32
-    ensures { result ≡ yOf regs.now }
+    ensures { result ≡ y_of regs.now }
 {
     regs[32]
 }

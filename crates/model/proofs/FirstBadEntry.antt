@@ -10,64 +10,64 @@ use borrow.Author.Tests.{eq-eqb, ne_eqb}
 use Rattle.numbers.specs.Choice.{pick}
 use Rattle.model.specs.declared.Answer.{Answer}
 use Rattle.model.specs.declared.Answer.TheVariants.{Entry, Forbidden, NoRoom, RecordsShort}
-use Rattle.model.specs.Records.{numbersIn, inFull, recordsOf}
+use Rattle.model.specs.Records.{numbers_in, in_full, records_of}
 use Rattle.model.specs.Walk.{Walked, table, refused, endless, places_of}
-use Rattle.model.specs.Translation.{Handed, answerNumbers, badCount, badEntry, firstBad, placeRoom, refusal, acceptance, fromWalk, translation}
+use Rattle.model.specs.Translation.{Handed, answer_numbers, bad_count, bad_entry, first_bad, place_room, refusal, acceptance, from_walk, translation}
 use Rattle.model.specs.FirstBadEntry.{First, NamesFirst, FirstBadEntry}
 
 -- ---------------------------------------------------------------- the position is that of the first bad entry
 module _ (base size : ℕ) where
   abbrev from : ℕ → List ℕ → ℕ
-  from = firstBad base size
+  from = first_bad base size
 
   -- the first of a list, from its head and its tail
-  head_first : (e : ℕ) (es : List ℕ) → badEntry base size e ≡ true → First base size (e ∷ es) 0
+  head_first : (e : ℕ) (es : List ℕ) → bad_entry base size e ≡ true → First base size (e ∷ es) 0
   head_first e es h = record { there = omega arith; bad = h; none_before = λ i l. absurd (omega arith) }
 
-  tail-first : (e : ℕ) (es : List ℕ) (k : ℕ) → badEntry base size e ≡ false → First base size es k → First base size (e ∷ es) (suc k)
-  tail-first e es k h f = record { there = omega (arith, f.there); bad = f.bad; none_before = before }
+  tail_first : (e : ℕ) (es : List ℕ) (k : ℕ) → bad_entry base size e ≡ false → First base size es k → First base size (e ∷ es) (suc k)
+  tail_first e es k h f = record { there = omega (arith, f.there); bad = f.bad; none_before = before }
     where
-      before : (i : ℕ) → i < suc k → badEntry base size (get_or (e ∷ es) i 0) ≡ false
+      before : (i : ℕ) → i < suc k → bad_entry base size (get_or (e ∷ es) i 0) ≡ false
       before zero l = h
       before (suc i) l = f.none_before i (omega arith)
 
   -- a position names the first bad entry
-  named-first : (k : ℕ) (es : List ℕ) (p : ℕ) → from k es ≡ suc p → (i : ℕ) × ((p ≡ k + i) × First base size es i)
-  unfolding firstBad
-  named-first k [] p h = absurd (omega arith)
-  named-first k (e ∷ es) p h = go (badEntry base size e) refl h (named-first (suc k) es p)
+  named_first : (k : ℕ) (es : List ℕ) (p : ℕ) → from k es ≡ suc p → (i : ℕ) × ((p ≡ k + i) × First base size es i)
+  unfolding first_bad
+  named_first k [] p h = absurd (omega arith)
+  named_first k (e ∷ es) p h = go (bad_entry base size e) refl h (named_first (suc k) es p)
     where
-      go : (b : Bool) → badEntry base size e ≡ b → pick b (suc k) (from (suc k) es) ≡ suc p
+      go : (b : Bool) → bad_entry base size e ≡ b → pick b (suc k) (from (suc k) es) ≡ suc p
           → (from (suc k) es ≡ suc p → (i : ℕ) × ((p ≡ suc k + i) × First base size es i)) → (i : ℕ) × ((p ≡ k + i) × First base size (e ∷ es) i)
       go true q h r = (0, (omega arith, head_first e es q))
-      go false q h r = let d = r h in (suc d.0, (omega (arith, d.1.0), tail-first e es d.0 q d.1.1))
+      go false q h r = let d = r h in (suc d.0, (omega (arith, d.1.0), tail_first e es d.0 q d.1.1))
 
   -- and the first bad entry has that position
-  first-named : (k : ℕ) (es : List ℕ) (i : ℕ) → First base size es i → from k es ≡ suc (k + i)
-  unfolding firstBad
-  first-named k [] i f = absurd (omega (arith, f.there))
-  first-named k (e ∷ es) zero f = rw f.bad (omega arith)
-  first-named k (e ∷ es) (suc i) f =
+  first_named : (k : ℕ) (es : List ℕ) (i : ℕ) → First base size es i → from k es ≡ suc (k + i)
+  unfolding first_bad
+  first_named k [] i f = absurd (omega (arith, f.there))
+  first_named k (e ∷ es) zero f = rw f.bad (omega arith)
+  first_named k (e ∷ es) (suc i) f =
       rw (f.none_before 0 (omega arith))
-      (first-named (suc k) es i (record { there = omega (arith, f.there); bad = f.bad; none_before = λ j l. f.none_before (suc j) (omega arith) }) ∙ omega arith)
+      (first_named (suc k) es i (record { there = omega (arith, f.there); bad = f.bad; none_before = λ j l. f.none_before (suc j) (omega arith) }) ∙ omega arith)
 
 -- ---------------------------------------------------------------- and the answer's
 abbrev number_of : Answer → ℕ
-number_of a = get_or (answerNumbers a) 0 0
+number_of a = get_or (answer_numbers a) 0 0
 
 module _ (image : List ℕ) (base : ℕ) (entries : List ℕ) (pl rl : ℕ) where
   abbrev es : List ℕ
-  es = numbersIn entries
+  es = numbers_in entries
 
   abbrev size : ℕ
   size = length image
 
   -- after the walk no answer is 3
-  not_third : (w : Walked) → number_of (fromWalk image base pl rl w).answer ≡ 3 → ⊥
-  unfolding fromWalk refusal acceptance answerNumbers
-  not_third (table ps) = go (leb (length (recordsOf (inFull image base) ps)) (rl / 12))
+  not_third : (w : Walked) → number_of (from_walk image base pl rl w).answer ≡ 3 → ⊥
+  unfolding from_walk refusal acceptance answer_numbers
+  not_third (table ps) = go (leb (length (records_of (in_full image base) ps)) (rl / 12))
     where
-      go : (b : Bool) → number_of (pick b (acceptance image base pl rl ps) (refusal pl rl (RecordsShort (length (recordsOf (inFull image base) ps))))).answer ≡ 3 → ⊥
+      go : (b : Bool) → number_of (pick b (acceptance image base pl rl ps) (refusal pl rl (RecordsShort (length (records_of (in_full image base) ps))))).answer ≡ 3 → ⊥
       go true e = omega arith
       go false e = omega arith
   not_third (refused n a) = go (eqb n 4)
@@ -79,16 +79,16 @@ module _ (image : List ℕ) (base : ℕ) (entries : List ℕ) (pl rl : ℕ) wher
 
   -- the answer where 1 and 2 do not come first, by the count and the position
   abbrev walked : Handed
-  walked = fromWalk image base pl rl (places_of image base (placeRoom pl) es)
+  walked = from_walk image base pl rl (places_of image base (place_room pl) es)
 
   abbrev answer : Bool → ℕ → Answer
   answer c p = (pick c (refusal pl rl (Entry 0)) (pick (not (eqb p 0)) (refusal pl rl (Entry p)) walked)).answer
 
-  no-entry : {A : Type 0} (k : ℕ) → walked.answer ≡ Entry k → A
-  unfolding answerNumbers
-  no-entry k e = absurd (not_third (places_of image base (placeRoom pl) es) (ap number_of e))
+  no_entry : {A : Type 0} (k : ℕ) → walked.answer ≡ Entry k → A
+  unfolding answer_numbers
+  no_entry k e = absurd (not_third (places_of image base (place_room pl) es) (ap number_of e))
 
-  names : (c : Bool) (p : ℕ) → badCount (length es) ≡ c → firstBad base size 0 es ≡ p → NamesFirst base size es (answer c p)
+  names : (c : Bool) (p : ℕ) → bad_count (length es) ≡ c → first_bad base size 0 es ≡ p → NamesFirst base size es (answer c p)
   unfolding refusal
   names true p hc hp =
       record {
@@ -97,22 +97,22 @@ module _ (image : List ℕ) (base : ℕ) (entries : List ℕ) (pl rl : ℕ) wher
       }
   names false zero hc hp =
       record {
-        count = (no-entry 0, λ e. absurd (false≢true (sym hc ∙ e)));
-        entry = λ k. (no-entry (suc k), λ f. absurd (omega (arith, first-named base size 0 es k f.1)));
+        count = (no_entry 0, λ e. absurd (false≢true (sym hc ∙ e)));
+        entry = λ k. (no_entry (suc k), λ f. absurd (omega (arith, first_named base size 0 es k f.1)));
       }
   names false (suc p) hc hp =
-      let d = named-first base size 0 es p hp in
+      let d = named_first base size 0 es p hp in
       let f : First base size es p = subst (First base size es) (omega (arith, d.1.0)) d.1.1 in
       rw (answer, ne_eqb (suc p) 0 (λ z. omega (arith, z)))
       (record {
         count = (λ e. let z : ◌≡◌ {A = ℕ} (suc p) 0 = cc in absurd (omega arith), λ e. absurd (false≢true (sym hc ∙ e)));
         entry = λ k. (
           λ e. let z : p ≡ k = cc in (hc, subst (First base size es) z f),
-          λ g. ap Entry (omega (arith, hp, first-named base size 0 es k g.1)),
+          λ g. ap Entry (omega (arith, hp, first_named base size 0 es k g.1)),
         );
       })
 
-pub first-bad-entry : FirstBadEntry
+pub first_bad_entry : FirstBadEntry
 unfolding FirstBadEntry translation
-first-bad-entry image base entries pl rl hl hb =
-    rw (hl, eq-eqb (base % 4) 0 hb) (names image base entries pl rl (badCount (length (numbersIn entries))) (firstBad base (length image) 0 (numbersIn entries)) refl refl)
+first_bad_entry image base entries pl rl hl hb =
+    rw (hl, eq-eqb (base % 4) 0 hb) (names image base entries pl rl (bad_count (length (numbers_in entries))) (first_bad base (length image) 0 (numbers_in entries)) refl refl)

@@ -10,10 +10,10 @@ use Rattle.machine.specs.Ends.{ending}
 use Rattle.effects.specs.Effect.{Machine}
 use Rattle.model.specs.declared.Place.{Place}
 use Rattle.model.specs.declared.Place.TheVariants.{Pair, Held}
-use Rattle.model.specs.OldCore.{inImage, word_in}
-use Rattle.model.specs.Places.{plain, placeAt, member, followers, allowed}
+use Rattle.model.specs.OldCore.{in_image, word_in}
+use Rattle.model.specs.Places.{plain, place_at, member, followers, allowed}
 use Rattle.model.specs.NewCore.{lost}
-use Rattle.model.specs.Trails.{shownOf, Core}
+use Rattle.model.specs.Trails.{shown_of, Core}
 use Rattle.model.proofs.Members.{AllIn, AllP}
 use Rattle.model.proofs.Hop.{Left, onward, ends, lands, Hop, Over}
 use Rattle.model.proofs.Middle.{Out, on, over, by, out}
@@ -33,10 +33,10 @@ pub record Closed (image : List ℕ) (base : ℕ) (ps : List Place) : Type 0 whe
 module _ (image : List ℕ) (base db : ℕ) {S : Type 0} where
   -- what a place's turn leaves, of a core that is in the state `to place held machine` at each place, and goes on at the held addresses that
   -- `goes` says: at any other it strays, which ends its run
-  abbrev pub leftBy : (Place → ℕ → Machine → S) → (ℕ → Bool) → Out → Left S
-  leftBy to goes (on pl h m) = onward (to pl h m)
-  leftBy to goes (over e) = ends e
-  leftBy to goes (by a m) = pick (goes a) (onward (to (plain a) a m)) (lands a (shownOf m) (lost (inImage base (length image) a) a))
+  abbrev pub left_by : (Place → ℕ → Machine → S) → (ℕ → Bool) → Out → Left S
+  left_by to goes (on pl h m) = onward (to pl h m)
+  left_by to goes (over e) = ends e
+  left_by to goes (by a m) = pick (goes a) (onward (to (plain a) a m)) (lands a (shown_of m) (lost (in_image base (length image) a) a))
 
   -- the core c follows the places ps: at each it is in the state that `to` says, marks the place's address, has the machine, and is left after one
   -- step or two, no entry between them, as the place's turn says
@@ -47,11 +47,11 @@ module _ (image : List ℕ) (base db : ℕ) {S : Type 0} where
     pub closed : Closed image base ps
     pub over : (s : S) → Over c (c.next s)
     pub has : (pl : Place) (h : ℕ) (m : Machine) → c.machine_of (to pl h m) ≡ m
-    pub marks : (pl : Place) (h : ℕ) (m : Machine) → member ps pl ≡ true → c.mark (to pl h m) ≡ some (placeAt pl)
-    pub hops : (pl : Place) (h : ℕ) (m : Machine) → member ps pl ≡ true → Hop c (to pl h m) (leftBy to goes (out image base db pl h m))
+    pub marks : (pl : Place) (h : ℕ) (m : Machine) → member ps pl ≡ true → c.mark (to pl h m) ≡ some (place_at pl)
+    pub hops : (pl : Place) (h : ℕ) (m : Machine) → member ps pl ≡ true → Hop c (to pl h m) (left_by to goes (out image base db pl h m))
     -- where it goes on, it is at the plain place there, which need not be in the list (the old core knows no list): outside the image that ends
     -- with 2
-    pub marks-on : (a : ℕ) (m : Machine) → goes a ≡ true → c.mark (to (plain a) a m) ≡ some a
+    pub marks_on : (a : ℕ) (m : Machine) → goes a ≡ true → c.mark (to (plain a) a m) ≡ some a
     pub ends_on : (a : ℕ) (m : Machine) → goes a ≡ true → a % 4 ≡ 0 → word_in image base a ≡ none → Hop c (to (plain a) a m) (ends (ending 2 a))
 
 -- of two: where both go on, both have a plain place

@@ -10,93 +10,93 @@ use lib.Dec.{eqb}
 use lib.ListN.{length, take-append-drop, length-take, take}
 use Rattle.numbers.specs.Choice.{pick}
 use Rattle.numbers.specs.Number.{Below, plus, number_at}
-use Rattle.numbers.proofs.Bounds.{plus-lt}
+use Rattle.numbers.proofs.Bounds.{plus_lt}
 use Rattle.words.specs.Conditions.{bit_of}
 use Rattle.machine.specs.Ends.{Ending, ending, go, State, live}
 use Rattle.effects.specs.Effect.{Machine}
 use Rattle.model.specs.Run.{run, data_of}
-use Rattle.model.specs.OldCore.{Old, old, oldMachine, inImage, oldNext, oldBegun}
+use Rattle.model.specs.OldCore.{Old, old, old_machine, in_image, old_next, old_begun}
 use Rattle.model.specs.Places.{plain}
-use Rattle.model.specs.Records.{inFull, first, rowsIn}
-use Rattle.model.specs.NewCore.{New, new, newMachine, newNext, seek, begunAt, newBegun}
+use Rattle.model.specs.Records.{in_full, first, rows_in}
+use Rattle.model.specs.NewCore.{New, new, new_machine, new_next, seek, begun_at, new_begun}
 use Rattle.model.specs.declared.Answer.{Answer}
 use Rattle.model.specs.declared.Answer.TheVariants.{Accepted, ImageLength, Base, Entry, Forbidden, NoRoom, RecordsShort}
-use Rattle.model.specs.Translation.{answerNumbers, Handed, translation, placeRoom, Back}
-use Rattle.model.specs.Trails.{shownOf, Core, shownAt, Unspent}
-use Rattle.model.specs.Cores.{oldMark, oldOver, newMark, newByHeld, newOver, oldBegin, newBegin, stepsFor, trailOf}
+use Rattle.model.specs.Translation.{answer_numbers, Handed, translation, place_room, Back}
+use Rattle.model.specs.Trails.{shown_of, Core, shown_at, Unspent}
+use Rattle.model.specs.Cores.{old_mark, old_over, new_mark, new_by_held, new_over, old_begin, new_begin, steps_for, trail_of}
 use Rattle.model.specs.Demand3.{Placed, Complete, Strays, Holds, Demand3}
-use Rattle.model.specs.StateBytes.{oldBehind, newBehind, machineIn, oldIn, oldBytes, newIn, newBytes, After, oldAfter, newAfter, oldBegins, oldRuns, newBegins, newRuns, OldRunsAdd, NewRunsAdd}
-use Rattle.model.specs.Interface.{Bytes, bytes, answered, called, bytesMachine, oldBytesMark, oldCalls, newBytesMark, newBytesByHeld, newCalls, oldStarted, newStarted, start_of, ReadOff, Interface}
+use Rattle.model.specs.StateBytes.{old_behind, new_behind, machine_in, old_in, old_bytes, new_in, new_bytes, After, old_after, new_after, old_begins, old_runs, new_begins, new_runs, OldRunsAdd, NewRunsAdd}
+use Rattle.model.specs.Interface.{Bytes, bytes, answered, called, bytes_machine, old_bytes_mark, old_calls, new_bytes_mark, new_bytes_by_held, new_calls, old_started, new_started, start_of, ReadOff, Interface}
 use Rattle.model.proofs.Hop.{Over}
 use Rattle.model.proofs.Bounds.{SoundOld, SoundNew, found_lt}
-use Rattle.model.proofs.RoundTrip.{data-back, machine-sound}
-use Rattle.model.proofs.Shown.{shown-sound, shown-again, start-begun}
-use Rattle.model.proofs.Related.{Beside, Related, run-beside, trail-same, strays-on, flipped, flip-beside, holds_on}
-use Rattle.model.proofs.Coded.{runs-add, Holding, called-step}
-use Rattle.model.proofs.Calls.{oldArea, old-coded, old-sound, old-pc, old-annul, old-shows, newArea, new_coded, new-sound, new-record, new-held, new-shows}
-use Rattle.model.proofs.Demand3.{complete, Laid, laid, placed-lt, finds, demand3}
+use Rattle.model.proofs.RoundTrip.{data_back, machine_sound}
+use Rattle.model.proofs.Shown.{shown_sound, shown_again, start_begun}
+use Rattle.model.proofs.Related.{Beside, Related, run_beside, trail_same, strays_on, flipped, flip_beside, holds_on}
+use Rattle.model.proofs.Coded.{runs_add, Holding, called_step}
+use Rattle.model.proofs.Calls.{old_area, old_coded, old_sound, old_pc, old_annul, old_shows, new_area, new_coded, new_sound, new_record, new_held, new_shows}
+use Rattle.model.proofs.Demand3.{complete, Laid, laid, placed_lt, finds, demand3}
 
 -- ---------------------------------------------------------------- a run of m and then one of n is a run of m + n
-pub old-runs-add : OldRunsAdd
-unfolding OldRunsAdd oldRuns
-old-runs-add image base db m n bs l b d =
-    runs-add (oldNext image base db) oldAfter oldIn oldArea SoundOld (old-coded image base db) m n bs l (old-sound bs l b d)
+pub old_runs_add : OldRunsAdd
+unfolding OldRunsAdd old_runs
+old_runs_add image base db m n bs l b d =
+    runs_add (old_next image base db) old_after old_in old_area SoundOld (old_coded image base db) m n bs l (old_sound bs l b d)
 
-pub new-runs-add : NewRunsAdd
-unfolding NewRunsAdd newRuns
-new-runs-add records places base size db m n bs l br bp b d =
-    runs-add (newNext records places base size db) newAfter newIn newArea SoundNew (new_coded records places base size db br bp) m n bs l (new-sound bs l b d)
+pub new_runs_add : NewRunsAdd
+unfolding NewRunsAdd new_runs
+new_runs_add records places base size db m n bs l br bp b d =
+    runs_add (new_next records places base size db) new_after new_in new_area SoundNew (new_coded records places base size db br bp) m n bs l (new_sound bs l b d)
 
 -- ---------------------------------------------------------------- the old core on bytes
-data-few : (l : List ℕ) → length (data_of l) ≤ 65536
-data-few l = omega (arith, length-take 65536 l)
+data_few : (l : List ℕ) → length (data_of l) ≤ 65536
+data_few l = omega (arith, length-take 65536 l)
 
 module _ (image : List ℕ) (base db : ℕ) (l : List ℕ) where
   abbrev OldHolds : Bytes → Old → Type 0
-  OldHolds = Holding (oldNext image base db) oldAfter oldIn oldArea SoundOld (old-coded image base db) l
+  OldHolds = Holding (old_next image base db) old_after old_in old_area SoundOld (old_coded image base db) l
 
-  old-marks : (b : Bytes) (s : Old) → OldHolds b s → oldBytesMark b ≡ oldMark s
-  unfolding oldBytesMark oldMark oldAfter bit_of
-  old-marks b (old m pc npc annul) h =
+  old_marks : (b : Bytes) (s : Old) → OldHolds b s → old_bytes_mark b ≡ old_mark s
+  unfolding old_bytes_mark old_mark old_after bit_of
+  old_marks b (old m pc npc annul) h =
       let n = length (data_of l) in
-      rw (h.0, old-annul n m pc npc annul 0 0 (h.1, refl), old-pc n m pc npc annul 0 0 (h.1, refl)) (go annul)
+      rw (h.0, old_annul n m pc npc annul 0 0 (h.1, refl), old_pc n m pc npc annul 0 0 (h.1, refl)) (go annul)
     where
-      go : (a : Bool) → pick (eqb (bit_of a) 0) (some pc) none ≡ oldMark (old m pc npc a)
+      go : (a : Bool) → pick (eqb (bit_of a) 0) (some pc) none ≡ old_mark (old m pc npc a)
       go true = refl
       go false = refl
 
   -- the bytes hold what is shown of the state, and so show it
-  pub old-holds : (b : Bytes) (s : Old) → OldHolds b s → bytesMachine oldBehind b ≡ shownOf (oldMachine s)
-  unfolding bytesMachine oldAfter
-  old-holds b (old m pc npc annul) h =
+  pub old_holds : (b : Bytes) (s : Old) → OldHolds b s → bytes_machine old_behind b ≡ shown_of (old_machine s)
+  unfolding bytes_machine old_after
+  old_holds b (old m pc npc annul) h =
       let n = length (data_of l) in
-      rw (h.0, (data-back l m.area h.1.0.sized).0, old-shows n m pc npc annul 0 0 (h.1, refl), shown-sound n m h.1.0 (data-few l))
+      rw (h.0, (data_back l m.area h.1.0.sized).0, old_shows n m pc npc annul 0 0 (h.1, refl), shown_sound n m h.1.0 (data_few l))
 
-  old-shown-same : (b : Bytes) (s : Old) → OldHolds b s → shownOf (bytesMachine oldBehind b) ≡ shownOf (oldMachine s)
-  old-shown-same b (old m pc npc annul) h =
-      ap shownOf (old-holds b (old m pc npc annul) h) ∙ shown-again (length (data_of l)) m h.1.0 (data-few l)
+  old_shown_same : (b : Bytes) (s : Old) → OldHolds b s → shown_of (bytes_machine old_behind b) ≡ shown_of (old_machine s)
+  old_shown_same b (old m pc npc annul) h =
+      ap shown_of (old_holds b (old m pc npc annul) h) ∙ shown_again (length (data_of l)) m h.1.0 (data_few l)
 
-  pub old-related : Related (oldCalls image base db) (oldOver image base db) OldHolds
-  unfolding oldRuns
-  old-related =
+  pub old_related : Related (old_calls image base db) (old_over image base db) OldHolds
+  unfolding old_runs
+  old_related =
       record {
-        marks = old-marks;
-        shows = old-shown-same;
+        marks = old_marks;
+        shows = old_shown_same;
         goes = λ b s h. refl;
-        steps = λ b s h. called-step (oldNext image base db) oldAfter oldIn oldArea SoundOld (old-coded image base db) l b s h;
+        steps = λ b s h. called_step (old_next image base db) old_after old_in old_area SoundOld (old_coded image base db) l b s h;
       }
 
   -- begun bytes hold the begun state
-  pub old-beside : (p : ℕ) (bs : List ℕ) → Below 256 bs → Below 256 l → p < 2 ^ 32 → Beside OldHolds (oldStarted p (bytes bs l)) (oldBegin (start_of oldBehind p (bytes bs l)))
-  unfolding oldBegins oldBytes oldAfter machineIn oldBegun
-  old-beside p bs b d lp =
-      let m : Machine = machineIn oldBehind bs (data_of l) in (
+  pub old_beside : (p : ℕ) (bs : List ℕ) → Below 256 bs → Below 256 l → p < 2 ^ 32 → Beside OldHolds (old_started p (bytes bs l)) (old_begin (start_of old_behind p (bytes bs l)))
+  unfolding old_begins old_bytes old_after machine_in old_begun
+  old_beside p bs b d lp =
+      let m : Machine = machine_in old_behind bs (data_of l) in (
         old m p (plus p 4) false,
         (
-          rw (start-begun oldBehind bs (number_at bs 128 % 16) l),
+          rw (start_begun old_behind bs (number_at bs 128 % 16) l),
           (
-            ap (λ (a : List ℕ). bytes (oldBytes (live (old m p (plus p 4) false))) a) (sym (take-append-drop 65536 l)),
-            (machine-sound oldBehind bs l b d, lp, plus-lt p 4),
+            ap (λ (a : List ℕ). bytes (old_bytes (live (old m p (plus p 4) false))) a) (sym (take-append-drop 65536 l)),
+            (machine_sound old_behind bs l b d, lp, plus_lt p 4),
           ),
         ),
       )
@@ -104,76 +104,76 @@ module _ (image : List ℕ) (base db : ℕ) (l : List ℕ) where
 -- ---------------------------------------------------------------- the new core on bytes
 module _ (records places : List ℕ) (base size db : ℕ) (br : Below 256 records) (bp : Below 256 places) (l : List ℕ) where
   abbrev NewHolds : Bytes → New → Type 0
-  NewHolds = Holding (newNext records places base size db) newAfter newIn newArea SoundNew (new_coded records places base size db br bp) l
+  NewHolds = Holding (new_next records places base size db) new_after new_in new_area SoundNew (new_coded records places base size db br bp) l
 
-  new-marks : (b : Bytes) (s : New) → NewHolds b s → newBytesMark places b ≡ newMark places s
-  unfolding newBytesMark newMark newAfter
-  new-marks b (new m r g) h = rw (h.0, new-record (length (data_of l)) m r g 0 0 (h.1, refl))
+  new_marks : (b : Bytes) (s : New) → NewHolds b s → new_bytes_mark places b ≡ new_mark places s
+  unfolding new_bytes_mark new_mark new_after
+  new_marks b (new m r g) h = rw (h.0, new_record (length (data_of l)) m r g 0 0 (h.1, refl))
 
-  new-goes : (b : Bytes) (s : New) → NewHolds b s → newBytesByHeld records b ≡ newByHeld records s
-  unfolding newBytesByHeld newByHeld newAfter
-  new-goes b (new m r g) h =
+  new_goes : (b : Bytes) (s : New) → NewHolds b s → new_bytes_by_held records b ≡ new_by_held records s
+  unfolding new_bytes_by_held new_by_held new_after
+  new_goes b (new m r g) h =
       let n = length (data_of l) in
-      rw (h.0, new-record n m r g 0 0 (h.1, refl), new-held n m r g 0 0 (h.1, refl))
+      rw (h.0, new_record n m r g 0 0 (h.1, refl), new_held n m r g 0 0 (h.1, refl))
 
-  pub new-holds : (b : Bytes) (s : New) → NewHolds b s → bytesMachine newBehind b ≡ shownOf (newMachine s)
-  unfolding bytesMachine newAfter
-  new-holds b (new m r g) h =
+  pub new_holds : (b : Bytes) (s : New) → NewHolds b s → bytes_machine new_behind b ≡ shown_of (new_machine s)
+  unfolding bytes_machine new_after
+  new_holds b (new m r g) h =
       let n = length (data_of l) in
-      rw (h.0, (data-back l m.area h.1.0.sized).0, new-shows n m r g 0 0 (h.1, refl), shown-sound n m h.1.0 (data-few l))
+      rw (h.0, (data_back l m.area h.1.0.sized).0, new_shows n m r g 0 0 (h.1, refl), shown_sound n m h.1.0 (data_few l))
 
-  new-shown-same : (b : Bytes) (s : New) → NewHolds b s → shownOf (bytesMachine newBehind b) ≡ shownOf (newMachine s)
-  new-shown-same b (new m r g) h = ap shownOf (new-holds b (new m r g) h) ∙ shown-again (length (data_of l)) m h.1.0 (data-few l)
+  new_shown_same : (b : Bytes) (s : New) → NewHolds b s → shown_of (bytes_machine new_behind b) ≡ shown_of (new_machine s)
+  new_shown_same b (new m r g) h = ap shown_of (new_holds b (new m r g) h) ∙ shown_again (length (data_of l)) m h.1.0 (data_few l)
 
-  pub new-related : Related (newCalls records places base size db) (newOver records places base size db) NewHolds
-  unfolding newRuns
-  new-related =
+  pub new_related : Related (new_calls records places base size db) (new_over records places base size db) NewHolds
+  unfolding new_runs
+  new_related =
       record {
-        marks = new-marks;
-        shows = new-shown-same;
-        goes = new-goes;
-        steps = λ b s h. called-step (newNext records places base size db) newAfter newIn newArea SoundNew (new_coded records places base size db br bp) l b s h;
+        marks = new_marks;
+        shows = new_shown_same;
+        goes = new_goes;
+        steps = λ b s h. called_step (new_next records places base size db) new_after new_in new_area SoundNew (new_coded records places base size db br bp) l b s h;
       }
 
-  pub new-beside : (q f : ℕ) (bs : List ℕ) → Below 256 bs → Below 256 l → f < 2 ^ 32 → seek (rowsIn places) q ≡ some f
-      → Beside NewHolds (newStarted places base size q (bytes bs l)) (newBegin places base size (start_of newBehind q (bytes bs l)))
-  unfolding newBegins newBytes newAfter machineIn newBegun begunAt
-  new-beside q f bs b d lf e =
-      let m : Machine = machineIn newBehind bs (data_of l) in
+  pub new_beside : (q f : ℕ) (bs : List ℕ) → Below 256 bs → Below 256 l → f < 2 ^ 32 → seek (rows_in places) q ≡ some f
+      → Beside NewHolds (new_started places base size q (bytes bs l)) (new_begin places base size (start_of new_behind q (bytes bs l)))
+  unfolding new_begins new_bytes new_after machine_in new_begun begun_at
+  new_beside q f bs b d lf e =
+      let m : Machine = machine_in new_behind bs (data_of l) in
       rw e (
         new m f 0,
         (
-          rw (start-begun newBehind bs (number_at bs 128 % 16) l),
-          (ap (λ (a : List ℕ). bytes (newBytes (live (new m f 0))) a) (sym (take-append-drop 65536 l)), (machine-sound newBehind bs l b d, lf, omega arith)),
+          rw (start_begun new_behind bs (number_at bs 128 % 16) l),
+          (ap (λ (a : List ℕ). bytes (new_bytes (live (new m f 0))) a) (sym (take-append-drop 65536 l)), (machine_sound new_behind bs l b d, lf, omega arith)),
         ),
       )
 
-  pub new-live : (q f : ℕ) (bs : List ℕ) → seek (rowsIn places) q ≡ some f
-      → newStarted places base size q (bytes bs l) ≡ live (bytes (newBytes (live (new (machineIn newBehind bs []) f 0))) l)
-  unfolding newBegins newAfter newBegun begunAt
-  new-live q f bs e = rw e
+  pub new_live : (q f : ℕ) (bs : List ℕ) → seek (rows_in places) q ≡ some f
+      → new_started places base size q (bytes bs l) ≡ live (bytes (new_bytes (live (new (machine_in new_behind bs []) f 0))) l)
+  unfolding new_begins new_after new_begun begun_at
+  new_live q f bs e = rw e
 
 -- ---------------------------------------------------------------- demand 3 on bytes
 -- a call ends only with an end above 0
-over-answered : (c : Core Bytes) (e : Ending) (b : Bytes) → Over c (answered e b)
+over_answered : (c : Core Bytes) (e : Ending) (b : Bytes) → Over c (answered e b)
 unfolding answered
-over-answered c (ending zero v) b = tt
-over-answered c (ending (suc n) v) b = omega arith
+over_answered c (ending zero v) b = tt
+over_answered c (ending (suc n) v) b = omega arith
 
-over-called : (c : Core Bytes) (x : After) → Over c (called x)
+over_called : (c : Core Bytes) (x : After) → Over c (called x)
 unfolding called
-over-called c x = over-answered c x.ended (bytes x.state x.area)
+over_called c x = over_answered c x.ended (bytes x.state x.area)
 
 -- so what is shown of bytes, wherever calls come to, is what stands in them
-as-it-stands : {S : Type 0} (c : Core Bytes) (d : Core S) (R : Bytes → S → Type 0) → Related c d R
-    → ((b : Bytes) (s : S) → R b s → c.machine_of b ≡ shownAt d s) → (x : State Bytes) (y : State S) → Beside R x y
-    → (count : ℕ) (b : Bytes) → run c.next count x ≡ live b → shownAt c b ≡ c.machine_of b
-as-it-stands c d R Q holds x y r count b e =
-    let q : Beside R (live b) (run d.next count y) = rw e at (run-beside c d R Q count x y r) in
+as_it_stands : {S : Type 0} (c : Core Bytes) (d : Core S) (R : Bytes → S → Type 0) → Related c d R
+    → ((b : Bytes) (s : S) → R b s → c.machine_of b ≡ shown_at d s) → (x : State Bytes) (y : State S) → Beside R x y
+    → (count : ℕ) (b : Bytes) → run c.next count x ≡ live b → shown_at c b ≡ c.machine_of b
+as_it_stands c d R Q holds x y r count b e =
+    let q : Beside R (live b) (run d.next count y) = rw e at (run_beside c d R Q count x y r) in
     Q.shows b q.0 q.1.1 ∙ sym (holds b q.0 q.1.1)
 
-complete-at : (c : Core Bytes) → ((b : Bytes) → Over c (c.next b)) → (k : ℕ) (x : State Bytes) (b : Bytes) → x ≡ live b → Unspent (trailOf c k x) → Complete c k x
-complete-at c over k x b e u = subst (Complete c k) (sym e) (complete c over k b (subst (λ (z : State Bytes). Unspent (trailOf c k z)) e u))
+complete_at : (c : Core Bytes) → ((b : Bytes) → Over c (c.next b)) → (k : ℕ) (x : State Bytes) (b : Bytes) → x ≡ live b → Unspent (trail_of c k x) → Complete c k x
+complete_at c over k x b e u = subst (Complete c k) (sym e) (complete c over k b (subst (λ (z : State Bytes). Unspent (trail_of c k z)) e u))
 
 -- of an accepted call's places and records
 module _ (image : List ℕ) (base : ℕ) (entryList : List ℕ) (cap : ℕ) (places records : List ℕ) (L : Laid image base entryList cap places records) (db : ℕ) where
@@ -181,112 +181,112 @@ module _ (image : List ℕ) (base : ℕ) (entryList : List ℕ) (cap : ℕ) (pla
   size = length image
 
   abbrev OC : Core Bytes
-  OC = oldCalls image base db
+  OC = old_calls image base db
 
   abbrev NC : Core Bytes
-  NC = newCalls records places base size db
+  NC = new_calls records places base size db
 
-  over-old : (b : Bytes) → Over OC (OC.next b)
-  over-old b = over-called OC (oldRuns image base db 1 b.state b.area)
+  over_old : (b : Bytes) → Over OC (OC.next b)
+  over_old b = over_called OC (old_runs image base db 1 b.state b.area)
 
-  over-new : (b : Bytes) → Over NC (NC.next b)
-  over-new b = over-called NC (newRuns records places base size db 1 b.state b.area)
+  over_new : (b : Bytes) → Over NC (NC.next b)
+  over_new b = over_called NC (new_runs records places base size db 1 b.state b.area)
 
   module _ (b c : Bytes) (bb : Below 256 b.state) (bd : Below 256 b.area) (cb : Below 256 c.state) (cd : Below 256 c.area)
       (p q : ℕ) (lp : p < 2 ^ 32) (hq : Placed image base entryList q) (k : ℕ) where
-    old-trails : trailOf OC k (oldStarted p b) ≡ trailOf (oldOver image base db) k (oldBegin (start_of oldBehind p b))
-    old-trails =
-        trail-same OC (oldOver image base db) (OldHolds image base db b.area) (old-related image base db b.area) (stepsFor k) k 0 (oldStarted p b)
-        (oldBegin (start_of oldBehind p b)) (old-beside image base db b.area p b.state bb bd lp)
+    old_trails : trail_of OC k (old_started p b) ≡ trail_of (old_over image base db) k (old_begin (start_of old_behind p b))
+    old_trails =
+        trail_same OC (old_over image base db) (OldHolds image base db b.area) (old_related image base db b.area) (steps_for k) k 0 (old_started p b)
+        (old_begin (start_of old_behind p b)) (old_beside image base db b.area p b.state bb bd lp)
 
     abbrev NH : Bytes → New → Type 0
-    NH = NewHolds records places base size db L.records-bytes L.places-bytes c.area
+    NH = NewHolds records places base size db L.records_bytes L.places_bytes c.area
 
     abbrev N : Core New
-    N = newOver records places base size db
+    N = new_over records places base size db
 
     abbrev begun : State New
-    begun = newBegin places base size (start_of newBehind q c)
+    begun = new_begin places base size (start_of new_behind q c)
 
     abbrev started : State Bytes
-    started = newStarted places base size q c
+    started = new_started places base size q c
 
     related : Related NC N NH
-    related = new-related records places base size db L.records-bytes L.places-bytes c.area
+    related = new_related records places base size db L.records_bytes L.places_bytes c.area
 
     abbrev f : ℕ
-    f = 0 + first (inFull image base) L.ps (plain q)
+    f = 0 + first (in_full image base) L.ps (plain q)
 
-    found : seek (rowsIn places) q ≡ some f
+    found : seek (rows_in places) q ≡ some f
     found = finds image base entryList cap places records L q hq
 
     beside : Beside NH started begun
     beside =
-        new-beside records places base size db L.records-bytes L.places-bytes c.area q f c.state cb cd
-        (rw found at (found_lt places q L.places-bytes)) found
+        new_beside records places base size db L.records_bytes L.places_bytes c.area q f c.state cb cd
+        (rw found at (found_lt places q L.places_bytes)) found
 
-    new-trails : trailOf NC k started ≡ trailOf N k begun
-    new-trails = trail-same NC N NH related (stepsFor k) k 0 started begun beside
+    new_trails : trail_of NC k started ≡ trail_of N k begun
+    new_trails = trail_same NC N NH related (steps_for k) k 0 started begun beside
 
-    strays-same : (h : ℕ) → Strays (Placed image base entryList) (inImage base size) N k begun h
-        ↔ Strays (Placed image base entryList) (inImage base size) NC k started h
-    strays-same h = (
-      strays-on N NC (λ s x. NH x s) (flipped related) (Placed image base entryList) (inImage base size) k begun started h
-          (flip-beside NH started begun beside),
-      strays-on NC N NH related (Placed image base entryList) (inImage base size) k started begun h beside,
+    strays_same : (h : ℕ) → Strays (Placed image base entryList) (in_image base size) N k begun h
+        ↔ Strays (Placed image base entryList) (in_image base size) NC k started h
+    strays_same h = (
+      strays_on N NC (λ s x. NH x s) (flipped related) (Placed image base entryList) (in_image base size) k begun started h
+          (flip_beside NH started begun beside),
+      strays_on NC N NH related (Placed image base entryList) (in_image base size) k started begun h beside,
     )
 
-    pub on-bytes : Holds (Placed image base entryList) (inImage base size) k (start_of oldBehind p b) (start_of newBehind q c) (oldOver image base db)
-        (oldBegin (start_of oldBehind p b)) N begun
-        → Holds (Placed image base entryList) (inImage base size) k (start_of oldBehind p b) (start_of newBehind q c) OC (oldStarted p b) NC started
-    on-bytes H =
-        holds_on (Placed image base entryList) (inImage base size) k (start_of oldBehind p b) (start_of newBehind q c)
-        (oldOver image base db) (oldBegin (start_of oldBehind p b)) N begun OC (oldStarted p b) NC started old-trails new-trails
-        (complete OC over-old k (bytes (oldBegins p b.state) b.area) (subst Unspent (sym old-trails) H.old-complete.unspent))
-        (complete-at NC over-new k started (bytes (newBytes (live (new (machineIn newBehind c.state []) f 0))) c.area)
-        (new-live records places base size db L.records-bytes L.places-bytes c.area q f c.state found)
-        (subst Unspent (sym new-trails) H.new-complete.unspent))
-        strays-same H
+    pub on_bytes : Holds (Placed image base entryList) (in_image base size) k (start_of old_behind p b) (start_of new_behind q c) (old_over image base db)
+        (old_begin (start_of old_behind p b)) N begun
+        → Holds (Placed image base entryList) (in_image base size) k (start_of old_behind p b) (start_of new_behind q c) OC (old_started p b) NC started
+    on_bytes H =
+        holds_on (Placed image base entryList) (in_image base size) k (start_of old_behind p b) (start_of new_behind q c)
+        (old_over image base db) (old_begin (start_of old_behind p b)) N begun OC (old_started p b) NC started old_trails new_trails
+        (complete OC over_old k (bytes (old_begins p b.state) b.area) (subst Unspent (sym old_trails) H.old_complete.unspent))
+        (complete_at NC over_new k started (bytes (new_bytes (live (new (machine_in new_behind c.state []) f 0))) c.area)
+        (new_live records places base size db L.records_bytes L.places_bytes c.area q f c.state found)
+        (subst Unspent (sym new_trails) H.new_complete.unspent))
+        strays_same H
 
-    pub old-read : ReadOff oldBehind k OC (oldStarted p b) (oldOver image base db) (oldBegin (start_of oldBehind p b))
-    old-read =
+    pub old_read : ReadOff old_behind k OC (old_started p b) (old_over image base db) (old_begin (start_of old_behind p b))
+    old_read =
         record {
-          same-trail = old-trails;
-          as-it-stands = as-it-stands OC (oldOver image base db) (OldHolds image base db b.area) (old-related image base db b.area)
-              (old-holds image base db b.area) (oldStarted p b) (oldBegin (start_of oldBehind p b)) (old-beside image base db b.area p b.state bb bd lp);
+          same_trail = old_trails;
+          as_it_stands = as_it_stands OC (old_over image base db) (OldHolds image base db b.area) (old_related image base db b.area)
+              (old_holds image base db b.area) (old_started p b) (old_begin (start_of old_behind p b)) (old_beside image base db b.area p b.state bb bd lp);
         }
 
-    pub new-read : ReadOff newBehind k NC started N begun
-    new-read =
+    pub new_read : ReadOff new_behind k NC started N begun
+    new_read =
         record {
-          same-trail = new-trails;
-          as-it-stands = as-it-stands NC N NH related (new-holds records places base size db L.records-bytes L.places-bytes c.area) started begun beside;
+          same_trail = new_trails;
+          as_it_stands = as_it_stands NC N NH related (new_holds records places base size db L.records_bytes L.places_bytes c.area) started begun beside;
         }
 
 -- number 0 is acceptance, with the two counts beside it
-accepted-back : (a : Answer) (P R : ℕ) → answerNumbers a ≡ 0 ∷ P ∷ R ∷ [] → a ≡ Accepted P R
-unfolding answerNumbers
-accepted-back (Accepted p r) P R e = let q : p ≡ P = cc in let s : r ≡ R = cc in cc
-accepted-back (ImageLength n) P R e = let z : ◌≡◌ {A = ℕ} 1 0 = cc in absurd (omega arith)
-accepted-back (Base a) P R e = let z : ◌≡◌ {A = ℕ} 2 0 = cc in absurd (omega arith)
-accepted-back (Entry k) P R e = let z : ◌≡◌ {A = ℕ} 3 0 = cc in absurd (omega arith)
-accepted-back (Forbidden a) P R e = let z : ◌≡◌ {A = ℕ} 4 0 = cc in absurd (omega arith)
-accepted-back (NoRoom a) P R e = let z : ◌≡◌ {A = ℕ} 5 0 = cc in absurd (omega arith)
-accepted-back (RecordsShort n) P R e = let z : ◌≡◌ {A = ℕ} 6 0 = cc in absurd (omega arith)
+accepted_back : (a : Answer) (P R : ℕ) → answer_numbers a ≡ 0 ∷ P ∷ R ∷ [] → a ≡ Accepted P R
+unfolding answer_numbers
+accepted_back (Accepted p r) P R e = let q : p ≡ P = cc in let s : r ≡ R = cc in cc
+accepted_back (ImageLength n) P R e = let z : ◌≡◌ {A = ℕ} 1 0 = cc in absurd (omega arith)
+accepted_back (Base a) P R e = let z : ◌≡◌ {A = ℕ} 2 0 = cc in absurd (omega arith)
+accepted_back (Entry k) P R e = let z : ◌≡◌ {A = ℕ} 3 0 = cc in absurd (omega arith)
+accepted_back (Forbidden a) P R e = let z : ◌≡◌ {A = ℕ} 4 0 = cc in absurd (omega arith)
+accepted_back (NoRoom a) P R e = let z : ◌≡◌ {A = ℕ} 5 0 = cc in absurd (omega arith)
+accepted_back (RecordsShort n) P R e = let z : ◌≡◌ {A = ℕ} 6 0 = cc in absurd (omega arith)
 
 pub interface : Interface
 unfolding Interface Demand3
 interface image base entryList placesLength recordsLength placeCount recordCount table list ib eb call b c bb bd cb cd p q hp hq db k lk places records et er =
     let handed : Handed = translation image base entryList placesLength recordsLength in
-    let numbers : answerNumbers handed.answer ≡ 0 ∷ placeCount ∷ recordCount ∷ [] = sym (ap (λ (x : Back). x.numbers) call) in
-    let accepted : handed.answer ≡ Accepted placeCount recordCount = accepted-back handed.answer placeCount recordCount numbers in
+    let numbers : answer_numbers handed.answer ≡ 0 ∷ placeCount ∷ recordCount ∷ [] = sym (ap (λ (x : Back). x.numbers) call) in
+    let accepted : handed.answer ≡ Accepted placeCount recordCount = accepted_back handed.answer placeCount recordCount numbers in
     let et' : places ≡ take (16 * placeCount) handed.places = et ∙ ap (λ (x : Back). take (16 * placeCount) x.places) call in
     let er' : records ≡ take (12 * recordCount) handed.records = er ∙ ap (λ (x : Back). take (12 * recordCount) x.records) call in
     let L = laid image base entryList placesLength recordsLength placeCount recordCount ib eb handed refl accepted places records et' er' in
-    let lp = placed-lt image base entryList (placeRoom placesLength) places records L p hp in (
-      on-bytes image base entryList (placeRoom placesLength) places records L db b c bb bd cb cd p q lp hq k
-          (demand3 image base entryList placesLength recordsLength placeCount recordCount ib eb handed refl accepted (start_of oldBehind p b) (start_of newBehind q c) hp hq
+    let lp = placed_lt image base entryList (place_room placesLength) places records L p hp in (
+      on_bytes image base entryList (place_room placesLength) places records L db b c bb bd cb cd p q lp hq k
+          (demand3 image base entryList placesLength recordsLength placeCount recordCount ib eb handed refl accepted (start_of old_behind p b) (start_of new_behind q c) hp hq
           db k lk places records et' er'),
-      old-read image base entryList (placeRoom placesLength) places records L db b c bb bd cb cd p q lp hq k,
-      new-read image base entryList (placeRoom placesLength) places records L db b c bb bd cb cd p q lp hq k,
+      old_read image base entryList (place_room placesLength) places records L db b c bb bd cb cd p q lp hq k,
+      new_read image base entryList (place_room placesLength) places records L db b c bb bd cb cd p q lp hq k,
     )

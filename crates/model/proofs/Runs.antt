@@ -10,8 +10,8 @@ use mathlib.Core.Bool.{Bool, true, false, false≢true}
 use Prim.Native.Nat.{ℕ, zero, suc, ◌+◌, ◌-◌, ◌<◌, ◌≤◌, min}
 use mathlib.Core.Path.{◌≡◌, ap, ◌∙◌, refl, sym}
 use native.Mathlib.Omega.{arith}
-use Rattle.machine.specs.Ends.{Next, State, settle, endingOf, isGoing, left}
-use Rattle.machine.proofs.Ends.{going-is}
+use Rattle.machine.specs.Ends.{Next, State, settle, ending_of, is_going, left}
+use Rattle.machine.proofs.Ends.{going_is}
 use Rattle.model.specs.Run.{step, run, data_of, beyond, lent}
 
 -- n − i steps are left of n; one of them is done
@@ -23,9 +23,9 @@ run_on next n i x y z l h e =
     rw e (rw k at h)
 
 -- none is left
-pub run-done : {S : Type 0} (next : S → Next S) (n i : ℕ) (x z : State S) → n ≤ i → run next (n - i) x ≡ z → x ≡ z
+pub run_done : {S : Type 0} (next : S → Next S) (n i : ℕ) (x z : State S) → n ≤ i → run next (n - i) x ≡ z → x ≡ z
 unfolding run
-run-done next n i x z l h = let k : n - i ≡ 0 = omega arith in rw k at h
+run_done next n i x z l h = let k : n - i ≡ 0 = omega arith in rw k at h
 
 -- a run over the data of a lent area, told of the whole area: the data is the first n bytes, d what the run left of them
 pub lent_back : {S : Type 0} (next : S → Next S) (count : ℕ) (at-data at-end : List ℕ → State S) (l d : List ℕ) (n : ℕ)
@@ -51,27 +51,27 @@ lent_back next count at-data at-end l d n e k h = go (leb (length l) 65536) refl
         rw (q, take_at d (drop 65536 l) 65536 m, drop_at d (drop 65536 l) 65536 m, f)
 
 -- a step on an ended state changes nothing
-pub ended-stays : {S : Type 0} (next : S → Next S) (s : S) (e : End) → isGoing e ≡ false → left s e ≡ step next (left s e)
-unfolding step endingOf isGoing
-ended-stays next s Going h = absurd (false≢true (sym h))
-ended-stays next s (TrapTaken v) h = refl
-ended-stays next s (Outside v) h = refl
-ended-stays next s (IllegalWord v) h = refl
-ended-stays next s (Misaligned v) h = refl
-ended-stays next s (Unfit v) h = refl
-ended-stays next s (NoPlace v) h = refl
-ended-stays next s (BadRecord v) h = refl
-ended-stays next s (TooManySaves v) h = refl
-ended-stays next s (TooManyRestores v) h = refl
+pub ended_stays : {S : Type 0} (next : S → Next S) (s : S) (e : End) → is_going e ≡ false → left s e ≡ step next (left s e)
+unfolding step ending_of is_going
+ended_stays next s Going h = absurd (false≢true (sym h))
+ended_stays next s (TrapTaken v) h = refl
+ended_stays next s (Outside v) h = refl
+ended_stays next s (IllegalWord v) h = refl
+ended_stays next s (Misaligned v) h = refl
+ended_stays next s (Unfit v) h = refl
+ended_stays next s (NoPlace v) h = refl
+ended_stays next s (BadRecord v) h = refl
+ended_stays next s (TooManySaves v) h = refl
+ended_stays next s (TooManyRestores v) h = refl
 
 -- and so the rest of its run
-pub run-ended : {S : Type 0} (next : S → Next S) (n : ℕ) (s : S) (e : End) (z : State S) → isGoing e ≡ false → run next n (left s e) ≡ z → left s e ≡ z
+pub run_ended : {S : Type 0} (next : S → Next S) (n : ℕ) (s : S) (e : End) (z : State S) → is_going e ≡ false → run next n (left s e) ≡ z → left s e ≡ z
 unfolding run
-run-ended next zero s e z h k = k
-run-ended next (suc n) s e z h k =
-    run-ended next n s e z h (rw (← ended-stays next s e h) at k)
+run_ended next zero s e z h k = k
+run_ended next (suc n) s e z h k =
+    run_ended next n s e z h (rw (← ended_stays next s e h) at k)
 
 -- a step on a state that goes on
-pub step-going : {S : Type 0} (next : S → Next S) (s : S) (e : End) → isGoing e ≡ true → settle s (next s) ≡ step next (left s e)
+pub step_going : {S : Type 0} (next : S → Next S) (s : S) (e : End) → is_going e ≡ true → settle s (next s) ≡ step next (left s e)
 unfolding step
-step-going next s e h = rw (going-is e h)
+step_going next s e h = rw (going_is e h)

@@ -12,13 +12,13 @@ use borrow.Author.Tests.{ltb-true}
 use Rattle.numbers.specs.Choice.{pick}
 use Rattle.numbers.proofs.Choice.{either}
 use Rattle.numbers.specs.Number.{plus}
-use Rattle.words.specs.Reader.{instructionOf}
+use Rattle.words.specs.Reader.{instruction_of}
 use Rattle.model.specs.declared.Place.{Place}
 use Rattle.model.specs.declared.Place.TheVariants.{Pair, Held}
-use Rattle.model.specs.OldCore.{word_in, Transfer, illegal, straight, trap, call, bicc, jmpl, transferOf, target}
-use Rattle.model.specs.Places.{placeAt, member, Which, never, always, depends, whichOf, biccNames, returnNames, names, names_at, followers, allowed, plains, Makes, from-entry, from_place}
+use Rattle.model.specs.OldCore.{word_in, Transfer, illegal, straight, trap, call, bicc, jmpl, transfer_of, target}
+use Rattle.model.specs.Places.{place_at, member, Which, never, always, depends, which_of, bicc_names, return_names, names, names_at, followers, allowed, plains, Makes, from_entry, from_place}
 use Rattle.model.specs.Walk.{Walked, table, refused, endless, grow, grown, tested, handle, walk, places_of}
-use Rattle.model.proofs.Members.{mem-left, mem-last, AllIn, all-in-left, in_all, AllP, all_append, all-at, all_from, all_map, all-get, NoTwice, no-twice-last}
+use Rattle.model.proofs.Members.{mem_left, mem_last, AllIn, all_in_left, in_all, AllP, all_append, all_at, all_from, all_map, all_get, NoTwice, no_twice_last}
 use Rattle.model.proofs.Follows.{Aligned, Closed}
 
 -- ---------------------------------------------------------------- growing the list
@@ -26,31 +26,31 @@ use Rattle.model.proofs.Follows.{Aligned, Closed}
 pub record Grew (P : Place → Type 0) (cap : ℕ) (ps fs qs : List Place) : Type 0 where
   pub new : List Place
   pub eq : qs ≡ ps ++ new
-  pub in-it : AllIn qs fs
+  pub in_it : AllIn qs fs
   pub all : AllP P ps → AllP P fs → AllP P qs
   pub room : length ps ≤ cap → length qs ≤ cap
   pub once : NoTwice ps → NoTwice qs
 
-not-refused : {A : Type 0} (c a : ℕ) (qs : List Place) → refused c a ≡ table qs → A
-not-refused c a qs e = let z : ◌≡◌ {A = ℕ} 0 1 = cc in absurd (omega arith)
+not_refused : {A : Type 0} (c a : ℕ) (qs : List Place) → refused c a ≡ table qs → A
+not_refused c a qs e = let z : ◌≡◌ {A = ℕ} 0 1 = cc in absurd (omega arith)
 
-not-endless : {A : Type 0} (qs : List Place) → endless ≡ table qs → A
-not-endless qs e = let z : ◌≡◌ {A = ℕ} 0 1 = cc in absurd (omega arith)
+not_endless : {A : Type 0} (qs : List Place) → endless ≡ table qs → A
+not_endless qs e = let z : ◌≡◌ {A = ℕ} 0 1 = cc in absurd (omega arith)
 
-grew-known : (P : Place → Type 0) (cap : ℕ) (ps xs qs : List Place) (x : Place) → member ps x ≡ true → Grew P cap ps xs qs → Grew P cap ps (x ∷ xs) qs
-grew-known P cap ps xs qs x i r =
-    record { new = r.new; eq = r.eq; in-it = (rw r.eq (mem-left ps r.new x i), r.in-it); all = λ a b. r.all a b.1; room = r.room; once = r.once }
+grew_known : (P : Place → Type 0) (cap : ℕ) (ps xs qs : List Place) (x : Place) → member ps x ≡ true → Grew P cap ps xs qs → Grew P cap ps (x ∷ xs) qs
+grew_known P cap ps xs qs x i r =
+    record { new = r.new; eq = r.eq; in_it = (rw r.eq (mem_left ps r.new x i), r.in_it); all = λ a b. r.all a b.1; room = r.room; once = r.once }
 
-grew-added : (P : Place → Type 0) (cap : ℕ) (ps xs qs : List Place) (x : Place) → member ps x ≡ false → length ps < cap
+grew_added : (P : Place → Type 0) (cap : ℕ) (ps xs qs : List Place) (x : Place) → member ps x ≡ false → length ps < cap
     → Grew P cap (ps ++ (x ∷ [])) xs qs → Grew P cap ps (x ∷ xs) qs
-grew-added P cap ps xs qs x i l r =
+grew_added P cap ps xs qs x i l r =
     record {
       new = x ∷ r.new;
       eq = r.eq ∙ append_assoc ps (x ∷ []) r.new;
-      in-it = (rw r.eq (mem-left (ps ++ (x ∷ [])) r.new x (mem-last ps x)), r.in-it);
+      in_it = (rw r.eq (mem_left (ps ++ (x ∷ [])) r.new x (mem_last ps x)), r.in_it);
       all = λ a b. r.all (all_append P ps (x ∷ []) a (b.0, tt)) b.1;
       room = λ h. r.room (simp length-append (omega arith));
-      once = λ h. r.once (no-twice-last ps x h i);
+      once = λ h. r.once (no_twice_last ps x h i);
     }
 
 grew : (P : Place → Type 0) (cap : ℕ) (ps fs qs : List Place) → grow cap ps fs ≡ table qs → Grew P cap ps fs qs
@@ -60,7 +60,7 @@ grew P cap ps [] qs e =
     record {
       new = [];
       eq = sym z ∙ sym (append-nil ps);
-      in-it = tt;
+      in_it = tt;
       all = λ a b. subst (AllP P) z a;
       room = λ h. subst (λ (l : List Place). length l ≤ cap) z h;
       once = λ h. subst NoTwice z h;
@@ -69,48 +69,48 @@ grew P cap ps (x ∷ xs) qs e =
     go (member ps x) (ltb (length ps) cap) refl refl e (λ i. grew P cap ps xs qs i) (λ i. grew P cap (ps ++ (x ∷ [])) xs qs i)
   where
     go : (b c : Bool) → member ps x ≡ b → ltb (length ps) cap ≡ c
-        → pick b (grow cap ps xs) (pick c (grow cap (ps ++ (x ∷ [])) xs) (refused 5 (placeAt x))) ≡ table qs
+        → pick b (grow cap ps xs) (pick c (grow cap (ps ++ (x ∷ [])) xs) (refused 5 (place_at x))) ≡ table qs
         → (grow cap ps xs ≡ table qs → Grew P cap ps xs qs) → (grow cap (ps ++ (x ∷ [])) xs ≡ table qs → Grew P cap (ps ++ (x ∷ [])) xs qs)
         → Grew P cap ps (x ∷ xs) qs
-    go true c i j k known added = grew-known P cap ps xs qs x i (known k)
-    go false true i j k known added = grew-added P cap ps xs qs x i (ltb-true (length ps) cap j) (added k)
-    go false false i j k known added = not-refused 5 (placeAt x) qs k
+    go true c i j k known added = grew_known P cap ps xs qs x i (known k)
+    go false true i j k known added = grew_added P cap ps xs qs x i (ltb-true (length ps) cap j) (added k)
+    go false false i j k known added = not_refused 5 (place_at x) qs k
 
 -- ---------------------------------------------------------------- followers of an aligned place are aligned
-bicc-aligned : (k : Which) (annul : Bool) (t n : ℕ) → t % 4 ≡ 0 → t < 2 ^ 32 → n % 4 ≡ 0 → n < 2 ^ 32 → AllP Aligned (biccNames k annul t n)
-unfolding biccNames plus
-bicc-aligned never false t n a b c d = omega arith
-bicc-aligned never true t n a b c d = omega arith
-bicc-aligned always false t n a b c d = omega arith
-bicc-aligned always true t n a b c d = omega arith
-bicc-aligned depends false t n a b c d = omega arith
-bicc-aligned depends true t n a b c d = omega arith
+bicc_aligned : (k : Which) (annul : Bool) (t n : ℕ) → t % 4 ≡ 0 → t < 2 ^ 32 → n % 4 ≡ 0 → n < 2 ^ 32 → AllP Aligned (bicc_names k annul t n)
+unfolding bicc_names plus
+bicc_aligned never false t n a b c d = omega arith
+bicc_aligned never true t n a b c d = omega arith
+bicc_aligned always false t n a b c d = omega arith
+bicc_aligned always true t n a b c d = omega arith
+bicc_aligned depends false t n a b c d = omega arith
+bicc_aligned depends true t n a b c d = omega arith
 
-returns-aligned : (unimp : Bool) (p : ℕ) → p % 4 ≡ 0 → AllP Aligned (returnNames unimp p)
-unfolding returnNames plus
-returns-aligned true p a = omega arith
-returns-aligned false p a = omega arith
+returns_aligned : (unimp : Bool) (p : ℕ) → p % 4 ≡ 0 → AllP Aligned (return_names unimp p)
+unfolding return_names plus
+returns_aligned true p a = omega arith
+returns_aligned false p a = omega arith
 
-names-aligned : (t : Transfer) (unimp : Bool) (p n : ℕ) → Aligned (Pair p n) → AllP Aligned (names t unimp p n)
+names_aligned : (t : Transfer) (unimp : Bool) (p n : ℕ) → Aligned (Pair p n) → AllP Aligned (names t unimp p n)
 unfolding names target plus
-names-aligned illegal unimp p n a = tt
-names-aligned straight unimp p n a = omega arith
-names-aligned trap unimp p n a = tt
-names-aligned (call disp) unimp p n a = (omega arith, returns-aligned unimp p a.0)
-names-aligned (bicc cond annul disp) unimp p n a =
-    bicc-aligned (whichOf cond) annul ((p + 4 * disp) % 2 ^ 32) n (omega arith) (omega arith) a.1 a.3
-names-aligned (jmpl rd rs1 x) unimp p n a =
-    (omega arith, either (AllP Aligned) (eqb rd 0) [] (returnNames unimp p) tt (returns-aligned unimp p a.0))
+names_aligned illegal unimp p n a = tt
+names_aligned straight unimp p n a = omega arith
+names_aligned trap unimp p n a = tt
+names_aligned (call disp) unimp p n a = (omega arith, returns_aligned unimp p a.0)
+names_aligned (bicc cond annul disp) unimp p n a =
+    bicc_aligned (which_of cond) annul ((p + 4 * disp) % 2 ^ 32) n (omega arith) (omega arith) a.1 a.3
+names_aligned (jmpl rd rs1 x) unimp p n a =
+    (omega arith, either (AllP Aligned) (eqb rd 0) [] (return_names unimp p) tt (returns_aligned unimp p a.0))
 
-names-at-aligned : (o : Option ℕ) (unimp : Bool) (p n : ℕ) → Aligned (Pair p n) → AllP Aligned (names_at o unimp p n)
+names_at_aligned : (o : Option ℕ) (unimp : Bool) (p n : ℕ) → Aligned (Pair p n) → AllP Aligned (names_at o unimp p n)
 unfolding names_at
-names-at-aligned none unimp p n a = tt
-names-at-aligned (some word) unimp p n a = names-aligned (transferOf (instructionOf word)) unimp p n a
+names_at_aligned none unimp p n a = tt
+names_at_aligned (some word) unimp p n a = names_aligned (transfer_of (instruction_of word)) unimp p n a
 
-followers-aligned : (image : List ℕ) (base : ℕ) (x : Place) → Aligned x → AllP Aligned (followers image base x)
+followers_aligned : (image : List ℕ) (base : ℕ) (x : Place) → Aligned x → AllP Aligned (followers image base x)
 unfolding followers
-followers-aligned image base (Pair p n) a = names-at-aligned (word_in image base p) _ p n a
-followers-aligned image base (Held p) a = tt
+followers_aligned image base (Pair p n) a = names_at_aligned (word_in image base p) _ p n a
+followers_aligned image base (Held p) a = tt
 
 -- ---------------------------------------------------------------- places by their number
 get_none : (ps : List Place) (i : ℕ) → get_elem? ps i ≡ none → length ps ≤ i
@@ -118,15 +118,15 @@ get_none [] i e = omega arith
 get_none (x ∷ xs) zero e = let z : ◌≡◌ {A = ℕ} 0 1 = cc in absurd (omega arith)
 get_none (x ∷ xs) (suc i) e = omega (arith, get_none xs i e)
 
-get-some : (ps : List Place) (i : ℕ) (x : Place) → get_elem? ps i ≡ some x → take (suc i) ps ≡ take i ps ++ (x ∷ [])
-get-some [] i x e = let z : ◌≡◌ {A = ℕ} 0 1 = cc in absurd (omega arith)
-get-some (y ∷ ys) zero x e = let z : y ≡ x = cc in ap (λ (q : Place). q ∷ []) z
-get-some (y ∷ ys) (suc i) x e = ap {B = List Place} (λ r. y ∷ r) (get-some ys i x e)
+get_some : (ps : List Place) (i : ℕ) (x : Place) → get_elem? ps i ≡ some x → take (suc i) ps ≡ take i ps ++ (x ∷ [])
+get_some [] i x e = let z : ◌≡◌ {A = ℕ} 0 1 = cc in absurd (omega arith)
+get_some (y ∷ ys) zero x e = let z : y ≡ x = cc in ap (λ (q : Place). q ∷ []) z
+get_some (y ∷ ys) (suc i) x e = ap {B = List Place} (λ r. y ∷ r) (get_some ys i x e)
 
-get-lt : (ps : List Place) (i : ℕ) (x : Place) → get_elem? ps i ≡ some x → i < length ps
-get-lt [] i x e = let z : ◌≡◌ {A = ℕ} 0 1 = cc in absurd (omega arith)
-get-lt (y ∷ ys) zero x e = omega arith
-get-lt (y ∷ ys) (suc i) x e = omega (arith, get-lt ys i x e)
+get_lt : (ps : List Place) (i : ℕ) (x : Place) → get_elem? ps i ≡ some x → i < length ps
+get_lt [] i x e = let z : ◌≡◌ {A = ℕ} 0 1 = cc in absurd (omega arith)
+get_lt (y ∷ ys) zero x e = omega arith
+get_lt (y ∷ ys) (suc i) x e = omega (arith, get_lt ys i x e)
 
 module _ (image : List ℕ) (base : ℕ) where
   -- -------------------------------------------------------------- what each turn keeps, the walk keeps
@@ -145,13 +145,13 @@ module _ (image : List ℕ) (base : ℕ) where
           → grown (walk image base f cap (suc i)) y ≡ table qs → Reached qs
       unfolding grown
       keep-grown x g a (table rs) u v = ih rs (keep i ps rs x g a u q) v
-      keep-grown x g a (refused c b) u v = not-refused c b qs v
-      keep-grown x g a endless u v = not-endless qs v
+      keep-grown x g a (refused c b) u v = not_refused c b qs v
+      keep-grown x g a endless u v = not_endless qs v
 
       keep-test : (x : Place) → get_elem? ps i ≡ some x → (b : Bool) → allowed image base x ≡ b
           → tested image base (walk image base f cap (suc i)) cap ps x b ≡ table qs → Reached qs
       unfolding tested
-      keep-test x g false a v = not-refused 4 (placeAt x) qs v
+      keep-test x g false a v = not_refused 4 (place_at x) qs v
       keep-test x g true a v = keep-grown x g a (grow cap ps (followers image base x)) refl v
 
       keep_at : (o : Option Place) → get_elem? ps i ≡ o → handle image base (walk image base f cap (suc i)) cap ps o ≡ table qs → Reached qs
@@ -159,64 +159,64 @@ module _ (image : List ℕ) (base : ℕ) where
       keep_at none g v = let z : ps ≡ qs = cc in subst Reached z (record { turns = i; kept = q; all_done = g })
       keep_at (some x) g v = keep-test x g (allowed image base x) refl v
 
-    walk-keeps : (f i : ℕ) (ps qs : List Place) → Q i ps → walk image base f cap i ps ≡ table qs → Reached qs
+    walk_keeps : (f i : ℕ) (ps qs : List Place) → Q i ps → walk image base f cap i ps ≡ table qs → Reached qs
     unfolding walk
-    walk-keeps zero i ps qs q e = not-endless qs e
-    walk-keeps (suc f) i ps qs q e = keep_at f i ps qs q (λ rs s v. walk-keeps f (suc i) rs qs s v) (get_elem? ps i) refl e
+    walk_keeps zero i ps qs q e = not_endless qs e
+    walk_keeps (suc f) i ps qs q e = keep_at f i ps qs q (λ rs s v. walk_keeps f (suc i) rs qs s v) (get_elem? ps i) refl e
 
-    pub places-keep : (es : List ℕ) (qs : List Place) → ((ps : List Place) → grow cap [] (plains es) ≡ table ps → Q 0 ps)
+    pub places_keep : (es : List ℕ) (qs : List Place) → ((ps : List Place) → grow cap [] (plains es) ≡ table ps → Q 0 ps)
         → places_of image base cap es ≡ table qs → Reached qs
     unfolding places_of grown
-    places-keep es qs begin e = go (grow cap [] (plains es)) refl e
+    places_keep es qs begin e = go (grow cap [] (plains es)) refl e
       where
         go : (y : Walked) → grow cap [] (plains es) ≡ y → grown (walk image base (suc cap) cap 0) y ≡ table qs → Reached qs
-        go (table ps) u v = walk-keeps (suc cap) 0 ps qs (begin ps u) v
-        go (refused c a) u v = not-refused c a qs v
-        go endless u v = not-endless qs v
+        go (table ps) u v = walk_keeps (suc cap) 0 ps qs (begin ps u) v
+        go (refused c a) u v = not_refused c a qs v
+        go endless u v = not_endless qs v
 
   -- -------------------------------------------------------------- the list is closed
   abbrev Handled : List Place → Place → Type 0
   Handled ps x = (allowed image base x ≡ true) × AllIn ps (followers image base x)
 
-  handled-on : (ps new : List Place) (x : Place) → Handled ps x → Handled (ps ++ new) x
-  handled-on ps new x h = (h.0, all-in-left ps new (followers image base x) h.1)
+  handled_on : (ps new : List Place) (x : Place) → Handled ps x → Handled (ps ++ new) x
+  handled_on ps new x h = (h.0, all_in_left ps new (followers image base x) h.1)
 
   record SoFar (i : ℕ) (ps : List Place) : Type 0 where
     done : AllP (Handled ps) (take i ps)
     straight : AllP Aligned ps
 
-  handled-next : (cap i : ℕ) (ps qs : List Place) (x : Place) → get_elem? ps i ≡ some x → allowed image base x ≡ true
+  handled_next : (cap i : ℕ) (ps qs : List Place) (x : Place) → get_elem? ps i ≡ some x → allowed image base x ≡ true
       → grow cap ps (followers image base x) ≡ table qs → SoFar i ps → SoFar (suc i) qs
-  handled-next cap i ps qs x e ok g s =
+  handled_next cap i ps qs x e ok g s =
       let r = grew Aligned cap ps (followers image base x) qs g in
-      let taken : take (suc i) qs ≡ take i ps ++ (x ∷ []) = rw r.eq (take-append-le (suc i) ps r.new (get-lt ps i x e) ∙ get-some ps i x e) in
+      let taken : take (suc i) qs ≡ take i ps ++ (x ∷ []) = rw r.eq (take-append-le (suc i) ps r.new (get_lt ps i x e) ∙ get_some ps i x e) in
       record {
         done = rw (taken, r.eq) (all_append (Handled (ps ++ r.new)) (take i ps) (x ∷ [])
-            (all_map (Handled ps) (Handled (ps ++ r.new)) (handled-on ps r.new) (take i ps) s.done) ((ok, rw r.eq at r.in-it), tt));
-        straight = r.all s.straight (followers-aligned image base x (all-get Aligned ps i x s.straight e));
+            (all_map (Handled ps) (Handled (ps ++ r.new)) (handled_on ps r.new) (take i ps) s.done) ((ok, rw r.eq at r.in_it), tt));
+        straight = r.all s.straight (followers_aligned image base x (all_get Aligned ps i x s.straight e));
       }
 
-  pub places-closed : (cap : ℕ) (es : List ℕ) (qs : List Place) → AllP Aligned (plains es) → places_of image base cap es ≡ table qs → Closed image base qs
-  places-closed cap es qs l e =
-      let r = places-keep cap SoFar (handled-next cap) es qs (λ ps u. record { done = tt; straight = (grew Aligned cap [] (plains es) ps u).all tt l }) e in
+  pub places_closed : (cap : ℕ) (es : List ℕ) (qs : List Place) → AllP Aligned (plains es) → places_of image base cap es ≡ table qs → Closed image base qs
+  places_closed cap es qs l e =
+      let r = places_keep cap SoFar (handled_next cap) es qs (λ ps u. record { done = tt; straight = (grew Aligned cap [] (plains es) ps u).all tt l }) e in
       let every : AllP (Handled qs) qs = rw (take_all r.turns qs (get_none qs r.turns r.all_done)) at r.kept.done in
       record {
-        ok = λ x h. (all-at (Handled qs) qs every x h).0;
-        closed = λ x h. (all-at (Handled qs) qs every x h).1;
+        ok = λ x h. (all_at (Handled qs) qs every x h).0;
+        closed = λ x h. (all_at (Handled qs) qs every x h).1;
         aligned = r.kept.straight;
-        aligned_at = all-at Aligned qs r.kept.straight;
+        aligned_at = all_at Aligned qs r.kept.straight;
       }
 
   -- -------------------------------------------------------------- the list fits the table
-  pub places-fit : (cap : ℕ) (es : List ℕ) (qs : List Place) → places_of image base cap es ≡ table qs → length qs ≤ cap
-  places-fit cap es qs e =
-      (places-keep cap (λ i l. length l ≤ cap) (λ i ps rs x g a u r. (grew Aligned cap ps (followers image base x) rs u).room r) es qs
+  pub places_fit : (cap : ℕ) (es : List ℕ) (qs : List Place) → places_of image base cap es ≡ table qs → length qs ≤ cap
+  places_fit cap es qs e =
+      (places_keep cap (λ i l. length l ≤ cap) (λ i ps rs x g a u r. (grew Aligned cap ps (followers image base x) rs u).room r) es qs
       (λ ps u. (grew Aligned cap [] (plains es) ps u).room (omega arith)) e).kept
 
   -- -------------------------------------------------------------- the list has no place twice
-  pub places-once : (cap : ℕ) (es : List ℕ) (qs : List Place) → places_of image base cap es ≡ table qs → NoTwice qs
-  places-once cap es qs e =
-      (places-keep cap (λ i l. NoTwice l) (λ i ps rs x g a u r. (grew Aligned cap ps (followers image base x) rs u).once r) es qs
+  pub places_once : (cap : ℕ) (es : List ℕ) (qs : List Place) → places_of image base cap es ≡ table qs → NoTwice qs
+  places_once cap es qs e =
+      (places_keep cap (λ i l. NoTwice l) (λ i ps rs x g a u r. (grew Aligned cap ps (followers image base x) rs u).once r) es qs
       (λ ps u. (grew Aligned cap [] (plains es) ps u).once tt) e).kept
 
   -- -------------------------------------------------------------- the list is what the rules make, and all of it
@@ -226,55 +226,55 @@ module _ (image : List ℕ) (base : ℕ) where
 
     all_made : AllP Made qs
     all_made =
-        (places-keep cap (λ i l. AllP Made l)
+        (places_keep cap (λ i l. AllP Made l)
         (λ i ps rs x g a u r. (grew Made cap ps (followers image base x) rs u).all r
-        (all_from Made (followers image base x) (λ y h. from_place x y (all-get Made ps i x r g) h)))
-        es qs (λ ps u. (grew Made cap [] (plains es) ps u).all tt (all_from Made (plains es) (λ y h. from-entry y h))) e).kept
+        (all_from Made (followers image base x) (λ y h. from_place x y (all_get Made ps i x r g) h)))
+        es qs (λ ps u. (grew Made cap [] (plains es) ps u).all tt (all_from Made (plains es) (λ y h. from_entry y h))) e).kept
 
     entered : AllIn qs (plains es)
     entered =
-        (places-keep cap (λ i l. AllIn l (plains es))
-        (λ i ps rs x g a u r. let w = grew Made cap ps (followers image base x) rs u in rw w.eq (all-in-left ps w.new (plains es) r))
-        es qs (λ ps u. (grew Made cap [] (plains es) ps u).in-it) e).kept
+        (places_keep cap (λ i l. AllIn l (plains es))
+        (λ i ps rs x g a u r. let w = grew Made cap ps (followers image base x) rs u in rw w.eq (all_in_left ps w.new (plains es) r))
+        es qs (λ ps u. (grew Made cap [] (plains es) ps u).in_it) e).kept
 
-    pub member-made : (x : Place) → member qs x ≡ true → Makes image base es x
-    member-made x h = all-at Made qs all_made x h
+    pub member_made : (x : Place) → member qs x ≡ true → Makes image base es x
+    member_made x h = all_at Made qs all_made x h
 
-    pub made-member : Closed image base qs → (x : Place) → Makes image base es x → member qs x ≡ true
-    made-member C y (from-entry x h) = in_all qs (plains es) entered y h
-    made-member C z (from_place x y m h) = in_all qs (followers image base x) (C.closed x (made-member C x m)) y h
+    pub made_member : Closed image base qs → (x : Place) → Makes image base es x → member qs x ≡ true
+    made_member C y (from_entry x h) = in_all qs (plains es) entered y h
+    made_member C z (from_place x y m h) = in_all qs (followers image base x) (C.closed x (made_member C x m)) y h
 
   -- -------------------------------------------------------------- the walk comes to an end: "Every call ends."
-  grow-ends : {A : Type 0} (cap : ℕ) (ps fs : List Place) → grow cap ps fs ≡ endless → A
+  grow_ends : {A : Type 0} (cap : ℕ) (ps fs : List Place) → grow cap ps fs ≡ endless → A
   unfolding grow
-  grow-ends cap ps [] e = let z : ◌≡◌ {A = ℕ} 0 1 = cc in absurd (omega arith)
-  grow-ends {A} cap ps (x ∷ xs) e =
-      go (member ps x) (ltb (length ps) cap) e (λ i. grow-ends cap ps xs i) (λ i. grow-ends cap (ps ++ (x ∷ [])) xs i)
+  grow_ends cap ps [] e = let z : ◌≡◌ {A = ℕ} 0 1 = cc in absurd (omega arith)
+  grow_ends {A} cap ps (x ∷ xs) e =
+      go (member ps x) (ltb (length ps) cap) e (λ i. grow_ends cap ps xs i) (λ i. grow_ends cap (ps ++ (x ∷ [])) xs i)
     where
-      go : (b c : Bool) → pick b (grow cap ps xs) (pick c (grow cap (ps ++ (x ∷ [])) xs) (refused 5 (placeAt x))) ≡ endless
+      go : (b c : Bool) → pick b (grow cap ps xs) (pick c (grow cap (ps ++ (x ∷ [])) xs) (refused 5 (place_at x))) ≡ endless
           → (grow cap ps xs ≡ endless → A) → (grow cap (ps ++ (x ∷ [])) xs ≡ endless → A) → A
       go true c k known added = known k
       go false true k known added = added k
       go false false k known added = let z : ◌≡◌ {A = ℕ} 0 1 = cc in absurd (omega arith)
 
-  ends-grown : (cap : ℕ) (ps fs : List Place) (y : Walked) (rest : List Place → Walked) → length ps ≤ cap → grow cap ps fs ≡ y
+  ends_grown : (cap : ℕ) (ps fs : List Place) (y : Walked) (rest : List Place → Walked) → length ps ≤ cap → grow cap ps fs ≡ y
       → ((rs : List Place) → length rs ≤ cap → rest rs ≡ endless → ⊥) → grown rest y ≡ endless → ⊥
   unfolding grown
-  ends-grown cap ps fs (table rs) rest l u ih v = ih rs ((grew Aligned cap ps fs rs u).room l) v
-  ends-grown cap ps fs (refused c a) rest l u ih v = let z : ◌≡◌ {A = ℕ} 0 1 = cc in omega arith
-  ends-grown cap ps fs endless rest l u ih v = grow-ends cap ps fs u
+  ends_grown cap ps fs (table rs) rest l u ih v = ih rs ((grew Aligned cap ps fs rs u).room l) v
+  ends_grown cap ps fs (refused c a) rest l u ih v = let z : ◌≡◌ {A = ℕ} 0 1 = cc in omega arith
+  ends_grown cap ps fs endless rest l u ih v = grow_ends cap ps fs u
 
   module _ (cap i : ℕ) (ps : List Place) (l : length ps ≤ cap) (rest : List Place → Walked)
       (ih : (rs : List Place) → length rs ≤ cap → suc i ≤ cap → rest rs ≡ endless → ⊥) where
-    ends-test : (x : Place) (b : Bool) → suc i ≤ cap → tested image base rest cap ps x b ≡ endless → ⊥
+    ends_test : (x : Place) (b : Bool) → suc i ≤ cap → tested image base rest cap ps x b ≡ endless → ⊥
     unfolding tested
-    ends-test x false h v = let z : ◌≡◌ {A = ℕ} 0 1 = cc in omega arith
-    ends-test x true h v = ends-grown cap ps (followers image base x) (grow cap ps (followers image base x)) rest l refl (λ rs k w. ih rs k h w) v
+    ends_test x false h v = let z : ◌≡◌ {A = ℕ} 0 1 = cc in omega arith
+    ends_test x true h v = ends_grown cap ps (followers image base x) (grow cap ps (followers image base x)) rest l refl (λ rs k w. ih rs k h w) v
 
     ends_at : (o : Option Place) → get_elem? ps i ≡ o → handle image base rest cap ps o ≡ endless → ⊥
     unfolding handle
     ends_at none g v = let z : ◌≡◌ {A = ℕ} 0 1 = cc in omega arith
-    ends_at (some x) g v = ends-test x (allowed image base x) (omega (arith, get-lt ps i x g)) v
+    ends_at (some x) g v = ends_test x (allowed image base x) (omega (arith, get_lt ps i x g)) v
 
   walk_ends : (f cap i : ℕ) (ps : List Place) → length ps ≤ cap → cap < i + f → i ≤ cap → walk image base f cap i ps ≡ endless → ⊥
   unfolding walk
@@ -282,8 +282,8 @@ module _ (image : List ℕ) (base : ℕ) where
   walk_ends (suc f) cap i ps r l h e =
       ends_at cap i ps r (walk image base f cap (suc i)) (λ qs s k v. walk_ends f cap (suc i) qs s (omega arith) k v) (get_elem? ps i) refl e
 
-  pub places-end : (cap : ℕ) (es : List ℕ) → places_of image base cap es ≡ endless → ⊥
+  pub places_end : (cap : ℕ) (es : List ℕ) → places_of image base cap es ≡ endless → ⊥
   unfolding places_of
-  places-end cap es e =
-      ends-grown cap [] (plains es) (grow cap [] (plains es)) (walk image base (suc cap) cap 0) (omega arith) refl
+  places_end cap es e =
+      ends_grown cap [] (plains es) (grow cap [] (plains es)) (walk image base (suc cap) cap 0) (omega arith) refl
       (λ rs k w. walk_ends (suc cap) cap 0 rs k (omega arith) (omega arith) w) e

@@ -6,17 +6,17 @@ use Rattle.std.proofs.Math.ListN.{get_elem?}
 use Rattle.numbers.specs.Number.{Below}
 use Rattle.model.specs.declared.Place.{Place}
 use Rattle.model.specs.declared.Answer.TheVariants.{Accepted}
-use Rattle.model.specs.Places.{placeAt, next_of, kind_of, Makes}
-use Rattle.model.specs.Records.{Rec, doWord, link, hold, goIf, goTo, goHeld, stop, unknown, Group, one, two, group, Row, row, rowsIn, recordsIn, numbersIn}
+use Rattle.model.specs.Places.{place_at, next_of, kind_of, Makes}
+use Rattle.model.specs.Records.{Rec, do_word, link, hold, go_if, go_to, go_held, stop, unknown, Group, one, two, group, Row, row, rows_in, records_in, numbers_in}
 use Rattle.model.specs.Translation.{Handed, translation}
 
 -- the row of a place with its first record f: "four numbers each: address, next, kind, first record"
 abbrev pub row_of : Place → ℕ → Row
-row_of x f = row (placeAt x) (next_of x) (kind_of x) f
+row_of x f = row (place_at x) (next_of x) (kind_of x) f
 
 -- a table lists the places that are made: each row is such a place's, and each of them has a row, one alone
 pub record Lists (made : Place → Type 0) (rows : List Row) : Type 0 where
-  pub made-only : (i : ℕ) (r : Row) → get_elem? rows i ≡ some r → (x : Place) × (made x × ((f : ℕ) × (r ≡ row_of x f)))
+  pub made_only : (i : ℕ) (r : Row) → get_elem? rows i ≡ some r → (x : Place) × (made x × ((f : ℕ) × (r ≡ row_of x f)))
   pub all_made : (x : Place) → made x → (i : ℕ) × ((f : ℕ) × (get_elem? rows i ≡ some (row_of x f)))
   pub once : (x : Place) (i j f g : ℕ) → get_elem? rows i ≡ some (row_of x f) → get_elem? rows j ≡ some (row_of x g) → i ≡ j
 
@@ -26,12 +26,12 @@ FirstRecord rows x f = (i : ℕ) × (get_elem? rows i ≡ some (row_of x f))
 
 -- a record is that of its group, where what names a place goes to that place's first record
 abbrev pub Renders : List Row → Rec Place → Rec ℕ → Type 0
-Renders rows (doWord w) s = s ≡ doWord w
+Renders rows (do_word w) s = s ≡ do_word w
 Renders rows (link p) s = s ≡ link p
 Renders rows (hold w p) s = s ≡ hold w p
-Renders rows (goIf c x) s = (f : ℕ) × (FirstRecord rows x f × (s ≡ goIf c f))
-Renders rows (goTo x) s = (f : ℕ) × (FirstRecord rows x f × (s ≡ goTo f))
-Renders rows goHeld s = s ≡ goHeld
+Renders rows (go_if c x) s = (f : ℕ) × (FirstRecord rows x f × (s ≡ go_if c f))
+Renders rows (go_to x) s = (f : ℕ) × (FirstRecord rows x f × (s ≡ go_to f))
+Renders rows go_held s = s ≡ go_held
 Renders rows (stop e p) s = s ≡ stop e p
 Renders rows unknown s = s ≡ unknown
 
@@ -56,12 +56,12 @@ pub record Grouped (group_of : Place → Group Place) (rows : List Row) (records
 
 -- just the places and records counted; what is handed back are bytes
 pub record Translated (image : List ℕ) (base : ℕ) (entryList : List ℕ) (placeCount recordCount : ℕ) (places records : List ℕ) : Type 0 where
-  pub place-count : length (rowsIn places) ≡ placeCount
-  pub record-count : length (recordsIn records) ≡ recordCount
-  pub lists : Lists (Makes image base (numbersIn entryList)) (rowsIn places)
-  pub grouped : Grouped (group image base) (rowsIn places) (recordsIn records)
-  pub place-bytes : Below 256 places
-  pub record-bytes : Below 256 records
+  pub place_count : length (rows_in places) ≡ placeCount
+  pub record_count : length (records_in records) ≡ recordCount
+  pub lists : Lists (Makes image base (numbers_in entryList)) (rows_in places)
+  pub grouped : Grouped (group image base) (rows_in places) (records_in records)
+  pub place_bytes : Below 256 places
+  pub record_bytes : Below 256 records
 
 unfoldable pub AllOfThem : Type 0
 AllOfThem =

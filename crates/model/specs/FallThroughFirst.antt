@@ -3,26 +3,26 @@ use Rattle.std.specs.Prelude.{ℕ, suc, ◌<◌, ◌≡◌, Bool, false, List, [
 use Rattle.std.proofs.Math.Option.{some}
 use Rattle.numbers.specs.Choice.{pick}
 use Rattle.numbers.specs.Number.{plus}
-use Rattle.words.specs.Reader.{instructionOf}
+use Rattle.words.specs.Reader.{instruction_of}
 use Rattle.words.specs.declared.Instruction.TheVariants.{Bicc}
 use Rattle.model.specs.declared.Place.{Place}
 use Rattle.model.specs.declared.Place.TheVariants.{Pair}
 use Rattle.model.specs.OldCore.{word_in, target}
-use Rattle.model.specs.Places.{plain, samePlace, member, followers}
+use Rattle.model.specs.Places.{plain, same_place, member, followers}
 use Rattle.model.specs.Walk.{table, grow}
 
 -- two places, neither in a table yet, and room for both
 pub record TwoNew (cap : ℕ) (ps : List Place) (x y : Place) : Type 0 where
-  pub first-new : member ps x ≡ false
-  pub second-new : member ps y ≡ false
-  pub apart : samePlace x y ≡ false
+  pub first_new : member ps x ≡ false
+  pub second_new : member ps y ≡ false
+  pub apart : same_place x y ≡ false
   pub room : suc (length ps) < cap
 
 -- "Where a conditional branch finds two new followers together, .. the fall-through shall have" the smaller number: it takes the next one, and
 -- the place taken, (n, t), the one after that
 unfoldable pub FallThroughFirst : Type 0
 FallThroughFirst =
-    (image : List ℕ) (base p n word cond : ℕ) (annul : Bool) (disp : ℕ) → word_in image base p ≡ some word → instructionOf word ≡ Bicc cond annul disp
+    (image : List ℕ) (base p n word cond : ℕ) (annul : Bool) (disp : ℕ) → word_in image base p ≡ some word → instruction_of word ≡ Bicc cond annul disp
     → (cond ≡ 0 → ⊥) → (cond ≡ 8 → ⊥)
     → let fallThrough = plain (pick annul (plus n 4) n) in
     let taken = Pair n (target p disp) in

@@ -4,21 +4,21 @@ use Rattle.std.proofs.Math.Option.{Option, none, some}
 use Rattle.std.proofs.Math.ListN.{get_elem?}
 use Rattle.numbers.specs.Choice.{pick}
 use Rattle.numbers.specs.Number.{plus}
-use Rattle.words.specs.Reader.{instructionOf}
+use Rattle.words.specs.Reader.{instruction_of}
 use Rattle.words.specs.Conditions.{holds_of}
 use Rattle.machine.specs.Ends.{Ending, ending, Next, go, halt, within, State, state, live}
-use Rattle.machine.specs.Registers.{putRegister, address_of}
-use Rattle.effects.specs.Effect.{Machine, withRegisters, effect_of}
-use Rattle.model.specs.OldCore.{inImage, Transfer, illegal, straight, trap, call, bicc, jmpl, transferOf}
-use Rattle.model.specs.Places.{mayBeHeld}
-use Rattle.model.specs.Records.{Rec, doWord, link, hold, goIf, goTo, goHeld, stop, unknown, Row, row, rowsIn, recordsIn}
+use Rattle.machine.specs.Registers.{put_register, address_of}
+use Rattle.effects.specs.Effect.{Machine, with_registers, effect_of}
+use Rattle.model.specs.OldCore.{in_image, Transfer, illegal, straight, trap, call, bicc, jmpl, transfer_of}
+use Rattle.model.specs.Places.{may_be_held}
+use Rattle.model.specs.Records.{Rec, do_word, link, hold, go_if, go_to, go_held, stop, unknown, Row, row, rows_in, records_in}
 
 -- registers, Y, flags and data; "A source address and a record number are two counters": the record number, the held address
 pub data New : Type 0 where
   new : Machine → ℕ → ℕ → New
 
-abbrev pub newMachine : New → Machine
-newMachine (new m r h) = m
+abbrev pub new_machine : New → Machine
+new_machine (new m r h) = m
 
 -- "After 1, 2, 3 and a 4 whose condition fails comes the next record": its number has 32 bits
 unfoldable pub following : ℕ → ℕ → Machine → New
@@ -31,12 +31,12 @@ fit illegal = false
 fit straight = true
 fit trap = true
 fit (call disp) = false
-fit (bicc cond annul disp) = mayBeHeld (bicc cond annul disp)
+fit (bicc cond annul disp) = may_be_held (bicc cond annul disp)
 fit (jmpl rd rs1 x) = false
 
-unfoldable pub doesWord : ℕ → ℕ → Machine → ℕ → ℕ → Next New
-doesWord db word m r h =
-    pick (fit (transferOf (instructionOf word))) (within (following r h) (effect_of db (instructionOf word) m)) (halt (ending 7 r))
+unfoldable pub does_word : ℕ → ℕ → Machine → ℕ → ℕ → Next New
+does_word db word m r h =
+    pick (fit (transfer_of (instruction_of word))) (within (following r h) (effect_of db (instruction_of word) m)) (halt (ending 7 r))
 
 -- kind 3: "hold the jmpl word in first, second being its source address"; "kind 3: anything but jmpl" is unfit
 unfoldable pub holds : Transfer → ℕ → Machine → ℕ → Next New
@@ -47,7 +47,7 @@ holds (call disp) p m r = halt (ending 7 r)
 holds (bicc cond annul disp) p m r = halt (ending 7 r)
 holds (jmpl rd rs1 x) p m r =
     let t = address_of m.registers rs1 x in
-    pick (eqb (t % 4) 0) (go (following r t (withRegisters m (putRegister m.registers rd p)))) (halt (ending 4 t))
+    pick (eqb (t % 4) 0) (go (following r t (with_registers m (put_register m.registers rd p)))) (halt (ending 4 t))
 
 -- kind 4: "if condition first holds, go to record second"; "a condition above 15" is bad
 unfoldable pub chooses : ℕ → ℕ → Machine → ℕ → ℕ → Next New
@@ -76,24 +76,24 @@ stops e p r = pick (eqb e 2 || eqb e 3) (halt (ending e p)) (halt (ending 7 r))
 module _ (rows : List Row) (base size db : ℕ) where
   unfoldable pub does : Option (Rec ℕ) → Machine → ℕ → ℕ → Next New
   does none m r h = halt (ending 7 r)
-  does (some (doWord word)) m r h = doesWord db word m r h
-  does (some (link p)) m r h = go (following r h (withRegisters m (putRegister m.registers 15 p)))
-  does (some (hold word p)) m r h = holds (transferOf (instructionOf word)) p m r
-  does (some (goIf cond to)) m r h = chooses cond to m r h
-  does (some (goTo to)) m r h = go (new m to h)
-  does (some goHeld) m r h = goes (seek rows h) (inImage base size h) m h
+  does (some (do_word word)) m r h = does_word db word m r h
+  does (some (link p)) m r h = go (following r h (with_registers m (put_register m.registers 15 p)))
+  does (some (hold word p)) m r h = holds (transfer_of (instruction_of word)) p m r
+  does (some (go_if cond to)) m r h = chooses cond to m r h
+  does (some (go_to to)) m r h = go (new m to h)
+  does (some go_held) m r h = goes (seek rows h) (in_image base size h) m h
   does (some (stop e p)) m r h = stops e p r
   does (some unknown) m r h = halt (ending 7 r)
 
 -- "The new core is given records, place table, base and image length", as bytes, and the data base.
-unfoldable pub newNext : List ℕ → List ℕ → ℕ → ℕ → ℕ → New → Next New
-newNext records places base size db (new m r h) = does (rowsIn places) base size db (get_elem? (recordsIn records) r) m r h
+unfoldable pub new_next : List ℕ → List ℕ → ℕ → ℕ → ℕ → New → Next New
+new_next records places base size db (new m r h) = does (rows_in places) base size db (get_elem? (records_in records) r) m r h
 
 -- "Begun at an address, neither ended, it starts at the first record of that address's lowest-numbered plain place
 -- (with none, as kind 6 would)"; "its held address starts as 0"
-unfoldable pub begunAt : Option ℕ → Bool → ℕ → Machine → State New
-begunAt (some f) inside a m = live (new m f 0)
-begunAt none inside a m = state (new m 0 0) (lost inside a)
+unfoldable pub begun_at : Option ℕ → Bool → ℕ → Machine → State New
+begun_at (some f) inside a m = live (new m f 0)
+begun_at none inside a m = state (new m 0 0) (lost inside a)
 
-unfoldable pub newBegun : List ℕ → ℕ → ℕ → ℕ → Machine → State New
-newBegun places base size a m = begunAt (seek (rowsIn places) a) (inImage base size a) a m
+unfoldable pub new_begun : List ℕ → ℕ → ℕ → ℕ → Machine → State New
+new_begun places base size a m = begun_at (seek (rows_in places) a) (in_image base size a) a m

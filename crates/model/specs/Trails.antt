@@ -12,32 +12,32 @@ use Rattle.std.proofs.Math.Option.{Option, none, some}
 use Rattle.numbers.specs.Choice.{pick}
 use Rattle.numbers.specs.Number.{up_to}
 use Rattle.machine.specs.Ends.{Ending, ending, Next, State, state, live}
-use Rattle.machine.specs.Registers.{fileSize}
+use Rattle.machine.specs.Registers.{file_size}
 use Rattle.windows.specs.Windows.{laid}
 use Rattle.effects.specs.Effect.{Machine, machine}
 use Rattle.model.specs.Run.{step, run, data_of}
 
 -- all numbers of a file: "Register 0 reads and shows as 0"
-abbrev pub wholeFile : List ℕ → List ℕ
-wholeFile rs = 0 ∷ up_to (λ i. get_or rs (i + 1) 0) (fileSize - 1)
+abbrev pub whole_file : List ℕ → List ℕ
+whole_file rs = 0 ∷ up_to (λ i. get_or rs (i + 1) 0) (file_size - 1)
 
 -- what an entry shows, of any core: registers 0 to 31, the flags, and the data, of which there are at most 65,536 bytes. 02, N4: "The state and each
 -- trail entry gain Y"; N11: "Trail entries show the nesting and every window"; they stand behind the registers
-unfoldable pub shownOf : Machine → Machine
-shownOf m = machine (laid (wholeFile m.registers)) m.flags (data_of m.area)
+unfoldable pub shown_of : Machine → Machine
+shown_of m = machine (laid (whole_file m.registers)) m.flags (data_of m.area)
 
 -- next: what a step does. mark: the address of the entry that stands before the step, if one does. machine_of: the registers, Y, windows, flags and
--- data that a state has; an entry shows them by `shownOf`, and no core chooses what. byHeld: the held address that the step goes by, if it does. An
+-- data that a state has; an entry shows them by `shown_of`, and no core chooses what. by_held: the held address that the step goes by, if it does. An
 -- end met by such a step is that of a landing without a place, whose entry the trail gains; the step itself only ends, and shows nothing of where
--- it would have gone. Of both cores, `CoreLaws` says what mark, machine_of and byHeld are.
+-- it would have gone. Of both cores, `CoreLaws` says what mark, machine_of and by_held are.
 pub record Core (S : Type 0) : Type 0 where
   pub next : S → Next S
   pub mark : S → Option ℕ
   pub machine_of : S → Machine
-  pub byHeld : S → Option ℕ
+  pub by_held : S → Option ℕ
 
-abbrev pub shownAt : {S : Type 0} → Core S → S → Machine
-shownAt c s = shownOf (c.machine_of s)
+abbrev pub shown_at : {S : Type 0} → Core S → S → Machine
+shown_at c s = shown_of (c.machine_of s)
 
 -- at: the steps since the entry before, "the address about to be executed, all registers, flags and data bytes" (02, N4: "and each trail entry
 -- gain Y"), and what follows.
@@ -66,13 +66,13 @@ module _ {S : Type 0} where
   -- the trail of a state that is going, or how it closes
   abbrev pub look : Core S → (S → Trail) → ℕ → ℕ → State S → Trail
   look c going k gap (state s (ending zero v)) = going s
-  look c going k gap (state s (ending (suc n) v)) = closes (c.byHeld s) k gap (shownAt c s) (ending (suc n) v)
+  look c going k gap (state s (ending (suc n) v)) = closes (c.by_held s) k gap (shown_at c s) (ending (suc n) v)
 
   -- the trail that a state's steps make, cut at k entries, of a run of the given count; `gap` steps were done since the last entry
   abbrev pub trail : Core S → ℕ → ℕ → ℕ → State S → Trail
   trail c zero k gap x = look c (λ s. spent) k gap x
   trail c (suc count) k gap x =
-      look c (λ s. turn (trail c count) k gap (c.mark s) (shownAt c s) (step c.next (live s))) k gap x
+      look c (λ s. turn (trail c count) k gap (c.mark s) (shown_at c s) (step c.next (live s))) k gap x
 
 -- an entry: "the address about to be executed, all registers, flags and data bytes"; 02, N4: "and each trail entry gain Y"
 pub data Entry : Type 0 where
@@ -111,13 +111,13 @@ later spent = []
 later (shut e) = []
 later (at gap a m t) = gap ∷ later t
 
-abbrev pub afterFirst : List ℕ → List ℕ
-afterFirst [] = []
-afterFirst (n ∷ ns) = ns
+abbrev pub after_first : List ℕ → List ℕ
+after_first [] = []
+after_first (n ∷ ns) = ns
 
 -- "From each entry to the next": the steps that lead to each entry after the first
 abbrev pub gaps : Trail → List ℕ
-gaps t = afterFirst (later t)
+gaps t = after_first (later t)
 
 -- "one or two"
 abbrev pub OneOrTwo : List ℕ → Type 0
@@ -137,14 +137,14 @@ reached n [] = 0
 reached n (gap ∷ gs) = pick (leb gap n) (suc (reached (n - gap) gs)) 0
 
 -- a trail held against the runs of its core
-abbrev pub oneIf : Option ℕ → ℕ
-oneIf none = 0
-oneIf (some a) = 1
+abbrev pub one_if : Option ℕ → ℕ
+one_if none = 0
+one_if (some a) = 1
 
 module _ {S : Type 0} where
   -- how many entries stand before the states after 0, 1, .. n steps
   abbrev pub counted : Core S → State S → ℕ
-  counted c (state s (ending zero v)) = oneIf (c.mark s)
+  counted c (state s (ending zero v)) = one_if (c.mark s)
   counted c (state s (ending (suc n) v)) = 0
 
   abbrev pub stood : Core S → ℕ → State S → ℕ
@@ -154,12 +154,12 @@ module _ {S : Type 0} where
   -- 1 where the state met its end by a held address: a landing, whose entry has no mark
   abbrev pub landed : Core S → State S → ℕ
   landed c (state s (ending zero v)) = 0
-  landed c (state s (ending (suc n) v)) = oneIf (c.byHeld s)
+  landed c (state s (ending (suc n) v)) = one_if (c.by_held s)
 
   -- the entry a, m stands before the state's step, or is a landing's
   abbrev pub StandsAt : Core S → State S → ℕ → Machine → Type 0
-  StandsAt c (state s (ending zero v)) a m = (c.mark s ≡ some a) × (shownAt c s ≡ m)
-  StandsAt c (state s (ending (suc n) v)) a m = (c.byHeld s ≡ some a) × (shownAt c s ≡ m)
+  StandsAt c (state s (ending zero v)) a m = (c.mark s ≡ some a) × (shown_at c s ≡ m)
+  StandsAt c (state s (ending (suc n) v)) a m = (c.by_held s ≡ some a) × (shown_at c s ≡ m)
 
   -- from the state at one entry (first: the start), as many steps as the first list says lead to the state at the next: what is shown of a
   -- trail, its entries and the steps that lead to them, is of its core's own run

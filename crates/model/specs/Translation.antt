@@ -5,19 +5,19 @@ use Rattle.numbers.specs.Number.{bytes_of}
 use Rattle.model.specs.declared.Place.{Place}
 use Rattle.model.specs.declared.Answer.{Answer}
 use Rattle.model.specs.declared.Answer.TheVariants.{Accepted, ImageLength, Base, Entry, Forbidden, NoRoom, RecordsShort}
-use Rattle.model.specs.OldCore.{inImage}
+use Rattle.model.specs.OldCore.{in_image}
 use Rattle.model.specs.Walk.{Walked, table, refused, endless, places_of}
-use Rattle.model.specs.Records.{numbersIn, inFull, rows_of, recordsOf, tableNumbers, recordsNumbers}
+use Rattle.model.specs.Records.{numbers_in, in_full, rows_of, records_of, table_numbers, records_numbers}
 
 -- 01's number for each answer, and the values returned
-unfoldable pub answerNumbers : Answer → List ℕ
-answerNumbers (Accepted places records) = 0 ∷ places ∷ records ∷ []
-answerNumbers (ImageLength n) = 1 ∷ n ∷ 0 ∷ []
-answerNumbers (Base a) = 2 ∷ a ∷ 0 ∷ []
-answerNumbers (Entry k) = 3 ∷ k ∷ 0 ∷ []
-answerNumbers (Forbidden a) = 4 ∷ a ∷ 0 ∷ []
-answerNumbers (NoRoom a) = 5 ∷ a ∷ 0 ∷ []
-answerNumbers (RecordsShort n) = 6 ∷ n ∷ 0 ∷ []
+unfoldable pub answer_numbers : Answer → List ℕ
+answer_numbers (Accepted places records) = 0 ∷ places ∷ records ∷ []
+answer_numbers (ImageLength n) = 1 ∷ n ∷ 0 ∷ []
+answer_numbers (Base a) = 2 ∷ a ∷ 0 ∷ []
+answer_numbers (Entry k) = 3 ∷ k ∷ 0 ∷ []
+answer_numbers (Forbidden a) = 4 ∷ a ∷ 0 ∷ []
+answer_numbers (NoRoom a) = 5 ∷ a ∷ 0 ∷ []
+answer_numbers (RecordsShort n) = 6 ∷ n ∷ 0 ∷ []
 
 -- the answer and the bytes of both buffers
 pub record Handed : Type 0 where
@@ -26,26 +26,26 @@ pub record Handed : Type 0 where
   pub records : List ℕ
 
 -- 1: "length 0, above 16,384, or no multiple of 4"
-unfoldable pub badLength : ℕ → Bool
-badLength n = eqb n 0 || ltb 16384 n || not (eqb (n % 4) 0)
+unfoldable pub bad_length : ℕ → Bool
+bad_length n = eqb n 0 || ltb 16384 n || not (eqb (n % 4) 0)
 
 -- 3: "0 or over 64 entries"
-unfoldable pub badCount : ℕ → Bool
-badCount n = eqb n 0 || ltb 64 n
+unfoldable pub bad_count : ℕ → Bool
+bad_count n = eqb n 0 || ltb 64 n
 
 -- 3: "an entry misaligned or outside the image"
-unfoldable pub badEntry : ℕ → ℕ → ℕ → Bool
-badEntry base size e = not (eqb (e % 4) 0 && inImage base size e)
+unfoldable pub bad_entry : ℕ → ℕ → ℕ → Bool
+bad_entry base size e = not (eqb (e % 4) 0 && in_image base size e)
 
 -- 02, N8: "Refusal 3's position is to be that of the first entry, in list order, that is misaligned or outside the image"; 01: "counted
 -- from 1". The entries here come after k others; 0 where none of them is bad
-unfoldable pub firstBad : ℕ → ℕ → ℕ → List ℕ → ℕ
-firstBad base size k [] = 0
-firstBad base size k (e ∷ es) = pick (badEntry base size e) (suc k) (firstBad base size (suc k) es)
+unfoldable pub first_bad : ℕ → ℕ → ℕ → List ℕ → ℕ
+first_bad base size k [] = 0
+first_bad base size k (e ∷ es) = pick (bad_entry base size e) (suc k) (first_bad base size (suc k) es)
 
 -- 5: "a new place exceeds the table (four numbers each ..) or is the 8,193rd"
-unfoldable pub placeRoom : ℕ → ℕ
-placeRoom size = min (size / 16) 8192
+unfoldable pub place_room : ℕ → ℕ
+place_room size = min (size / 16) 8192
 
 -- "on acceptance all bytes past the last number used are 0"
 unfoldable pub filled : List ℕ → ℕ → List ℕ
@@ -59,30 +59,30 @@ module _ (image : List ℕ) (base placesLength recordsLength : ℕ) where
   unfoldable pub acceptance : List Place → Handed
   acceptance ps =
       record {
-        answer = Accepted (length ps) (length (recordsOf (inFull image base) ps));
-        places = filled (tableNumbers (rows_of (inFull image base) ps)) placesLength;
-        records = filled (recordsNumbers (recordsOf (inFull image base) ps)) recordsLength;
+        answer = Accepted (length ps) (length (records_of (in_full image base) ps));
+        places = filled (table_numbers (rows_of (in_full image base) ps)) placesLength;
+        records = filled (records_numbers (records_of (in_full image base) ps)) recordsLength;
       }
 
-  -- 4 or 5, as the walk says; 6: "the record buffer is short", with the records needed; endless never is (`places-end`)
-  unfoldable pub fromWalk : Walked → Handed
-  fromWalk (table ps) =
-      pick (leb (length (recordsOf (inFull image base) ps)) (recordsLength / 12)) (acceptance ps)
-      (refusal placesLength recordsLength (RecordsShort (length (recordsOf (inFull image base) ps))))
-  fromWalk (refused n a) = pick (eqb n 4) (refusal placesLength recordsLength (Forbidden a)) (refusal placesLength recordsLength (NoRoom a))
-  fromWalk endless = refusal placesLength recordsLength (NoRoom 0)
+  -- 4 or 5, as the walk says; 6: "the record buffer is short", with the records needed; endless never is (`places_end`)
+  unfoldable pub from_walk : Walked → Handed
+  from_walk (table ps) =
+      pick (leb (length (records_of (in_full image base) ps)) (recordsLength / 12)) (acceptance ps)
+      (refusal placesLength recordsLength (RecordsShort (length (records_of (in_full image base) ps))))
+  from_walk (refused n a) = pick (eqb n 4) (refusal placesLength recordsLength (Forbidden a)) (refusal placesLength recordsLength (NoRoom a))
+  from_walk endless = refusal placesLength recordsLength (NoRoom 0)
 
 -- "Order: 1, 2, 3. In the walk .. the first event of 4 or 5 decides; 6 comes last." 02, N8: "a bad count still gives 0"
 unfoldable pub translation : List ℕ → ℕ → List ℕ → ℕ → ℕ → Handed
 translation image base entries placesLength recordsLength =
     let refuse = refusal placesLength recordsLength in
-    let es = numbersIn entries in
-    let bad = firstBad base (length image) 0 es in
-    pick (badLength (length image)) (refuse (ImageLength (length image)))
+    let es = numbers_in entries in
+    let bad = first_bad base (length image) 0 es in
+    pick (bad_length (length image)) (refuse (ImageLength (length image)))
     (pick (not (eqb (base % 4) 0)) (refuse (Base base))
-    (pick (badCount (length es)) (refuse (Entry 0))
+    (pick (bad_count (length es)) (refuse (Entry 0))
     (pick (not (eqb bad 0)) (refuse (Entry bad))
-    (fromWalk image base placesLength recordsLength (places_of image base (placeRoom placesLength) es)))))
+    (from_walk image base placesLength recordsLength (places_of image base (place_room placesLength) es)))))
 
 -- what the loader's routine returns and leaves: the answer's number and values, and the bytes of both buffers
 pub record Back : Type 0 where
@@ -94,4 +94,4 @@ abbrev pub back : List ℕ → List ℕ → List ℕ → Back
 back numbers places records = record { numbers = numbers; places = places; records = records }
 
 abbrev pub returned : Handed → Back
-returned h = back (answerNumbers h.answer) h.places h.records
+returned h = back (answer_numbers h.answer) h.places h.records

@@ -4,9 +4,9 @@ use Rattle.std.proofs.Math.Option.{Option, none, some}
 use Rattle.std.proofs.Math.ListN.{get_elem?}
 use Rattle.numbers.specs.Choice.{pick}
 use Rattle.model.specs.declared.Place.{Place}
-use Rattle.model.specs.Places.{placeAt, member, followers, allowed, plains}
+use Rattle.model.specs.Places.{place_at, member, followers, allowed, plains}
 
--- the places in number order, or a refusal's number and address; endless: the turns ran out, which never happens (`places-end`)
+-- the places in number order, or a refusal's number and address; endless: the turns ran out, which never happens (`places_end`)
 pub data Walked : Type 0 where
   table : List Place → Walked
   refused : ℕ → ℕ → Walked
@@ -18,7 +18,7 @@ grow cap ps [] = table ps
 grow cap ps (x ∷ xs) =
     let known = grow cap ps xs in
     let added = grow cap (ps ++ (x ∷ [])) xs in
-    pick (member ps x) known (pick (ltb (length ps) cap) added (refused 5 (placeAt x)))
+    pick (member ps x) known (pick (ltb (length ps) cap) added (refused 5 (place_at x)))
 
 -- goes on with the places, if the walk has not ended
 unfoldable pub grown : (List Place → Walked) → Walked → Walked
@@ -29,7 +29,7 @@ grown rest endless = endless
 module _ (image : List ℕ) (base : ℕ) where
   -- "4 is tested when a place is handled, before its followers"
   unfoldable pub tested : (List Place → Walked) → ℕ → List Place → Place → Bool → Walked
-  tested rest cap ps x false = refused 4 (placeAt x)
+  tested rest cap ps x false = refused 4 (place_at x)
   tested rest cap ps x true = grown rest (grow cap ps (followers image base x))
 
   unfoldable pub handle : (List Place → Walked) → ℕ → List Place → Option Place → Walked

@@ -1,15 +1,15 @@
 -- Laws of a record: the words that it may do, the jmpl that it may hold, the record at hand, the search of the table.
 use Rattle.numbers.proofs.Choice.{either, Misses, find_none}
-use Rattle.numbers.proofs.Lists.{at_up, past_up, drop-up, drop-all-up}
+use Rattle.numbers.proofs.Lists.{at_up, past_up, drop_up, drop_all_up}
 use Rattle.numbers.specs.Number.{number_at}
 use Rattle.words.specs.declared.Instruction.TheVariants.{Illegal, Call, Sethi, Bicc, Arithmetic, Jmpl, Ticc, Load, Store, Shift, Rdy, Wry, Window}
 use Rattle.words.specs.declared.Instruction.{Instruction}
-use Rattle.words.specs.Reader.{instructionOf, asJmpl}
+use Rattle.words.specs.Reader.{instruction_of, as_jmpl}
 use Rattle.machine.specs.Ends.{ending, halt}
 use Rattle.effects.specs.Effect.{Machine}
-use Rattle.model.specs.Records.{row_at, rowsIn, recordAt, recordsIn, recordOf, Rec, doWord, link, hold, goIf, goTo, goHeld, stop, unknown}
-use Rattle.model.specs.Places.{whichOf, idleBicc, Which, always, depends}
-use Rattle.model.specs.OldCore.{transferOf, Transfer, straight, trap}
+use Rattle.model.specs.Records.{row_at, rows_in, record_at, records_in, record_of, Rec, do_word, link, hold, go_if, go_to, go_held, stop, unknown}
+use Rattle.model.specs.Places.{which_of, idle_bicc, Which, always, depends}
+use Rattle.model.specs.OldCore.{transfer_of, Transfer, straight, trap}
 use Rattle.model.specs.NewCore.{fit, holds, seek}
 use denote.Enum.Declared.{tag_of}
 use types.Run.{OneOf, miss}
@@ -28,8 +28,8 @@ use Rattle.words.specs.contracts.Instruction.{the_type as instruction}
 abbrev others : List ℕ
 others = 2 ∷ 4 ∷ 6 ∷ 7 ∷ 8 ∷ 9 ∷ 10 ∷ 11 ∷ 12 ∷ []
 
-pub fits : (i : Instruction) → OneOf others (tag_of instruction i) → fit (transferOf i) ≡ true
-unfolding fit transferOf
+pub fits : (i : Instruction) → OneOf others (tag_of instruction i) → fit (transfer_of i) ≡ true
+unfolding fit transfer_of
 fits Illegal k = absurd (miss others 0 tt k)
 fits (Call disp) k = absurd (miss others 1 tt k)
 fits (Bicc cond annul disp) k = absurd (miss others 3 tt k)
@@ -44,32 +44,32 @@ fits (Rdy rd) k = refl
 fits (Wry s) k = refl
 fits (Window o rd rs1 x) k = refl
 
-abbrev no-jmpl : List ℕ
-no-jmpl = 0 ∷ 1 ∷ 2 ∷ 3 ∷ 4 ∷ 6 ∷ 7 ∷ 8 ∷ 9 ∷ 10 ∷ 11 ∷ 12 ∷ []
+abbrev no_jmpl : List ℕ
+no_jmpl = 0 ∷ 1 ∷ 2 ∷ 3 ∷ 4 ∷ 6 ∷ 7 ∷ 8 ∷ 9 ∷ 10 ∷ 11 ∷ 12 ∷ []
 
-pub not-held : (i : Instruction) (p : ℕ) (m : Machine) (r : ℕ) → OneOf no-jmpl (tag_of instruction i) → holds (transferOf i) p m r ≡ halt (ending 7 r)
-unfolding holds transferOf
-not-held Illegal p m r k = refl
-not-held (Call disp) p m r k = refl
-not-held (Bicc cond annul disp) p m r k = refl
-not-held (Jmpl rd rs1 x) p m r k = absurd (miss no-jmpl 5 tt k)
-not-held (Sethi rd imm) p m r k = refl
-not-held (Arithmetic o cc rd rs1 x) p m r k = refl
-not-held (Ticc cond rs1 x) p m r k = either (λ (t : Transfer). holds t p m r ≡ halt (ending 7 r)) (eqb cond 8) trap straight refl refl
-not-held (Load o rd rs1 x) p m r k = refl
-not-held (Store w rd rs1 x) p m r k = refl
-not-held (Shift o rd rs1 x) p m r k = refl
-not-held (Rdy rd) p m r k = refl
-not-held (Wry s) p m r k = refl
-not-held (Window o rd rs1 x) p m r k = refl
+pub not_held : (i : Instruction) (p : ℕ) (m : Machine) (r : ℕ) → OneOf no_jmpl (tag_of instruction i) → holds (transfer_of i) p m r ≡ halt (ending 7 r)
+unfolding holds transfer_of
+not_held Illegal p m r k = refl
+not_held (Call disp) p m r k = refl
+not_held (Bicc cond annul disp) p m r k = refl
+not_held (Jmpl rd rs1 x) p m r k = absurd (miss no_jmpl 5 tt k)
+not_held (Sethi rd imm) p m r k = refl
+not_held (Arithmetic o cc rd rs1 x) p m r k = refl
+not_held (Ticc cond rs1 x) p m r k = either (λ (t : Transfer). holds t p m r ≡ halt (ending 7 r)) (eqb cond 8) trap straight refl refl
+not_held (Load o rd rs1 x) p m r k = refl
+not_held (Store w rd rs1 x) p m r k = refl
+not_held (Shift o rd rs1 x) p m r k = refl
+not_held (Rdy rd) p m r k = refl
+not_held (Wry s) p m r k = refl
+not_held (Window o rd rs1 x) p m r k = refl
 
 -- a word read for a jmpl alone is held as the word itself
-pub held-alone : (word : ℕ) (i : Instruction) (p : ℕ) (m : Machine) (r : ℕ) → i ≡ asJmpl (instructionOf word)
-    → holds (transferOf (instructionOf word)) p m r ≡ holds (transferOf i) p m r
-unfolding holds transferOf asJmpl
-held-alone word i p m r e = rw e (alone (instructionOf word))
+pub held_alone : (word : ℕ) (i : Instruction) (p : ℕ) (m : Machine) (r : ℕ) → i ≡ as_jmpl (instruction_of word)
+    → holds (transfer_of (instruction_of word)) p m r ≡ holds (transfer_of i) p m r
+unfolding holds transfer_of as_jmpl
+held_alone word i p m r e = rw e (alone (instruction_of word))
   where
-    alone : (i : Instruction) → holds (transferOf i) p m r ≡ holds (transferOf (asJmpl i)) p m r
+    alone : (i : Instruction) → holds (transfer_of i) p m r ≡ holds (transfer_of (as_jmpl i)) p m r
     alone Illegal = refl
     alone (Call disp) = refl
     alone (Sethi rd imm) = refl
@@ -85,53 +85,53 @@ held-alone word i p m r e = rw e (alone (instructionOf word))
     alone (Window o rd rs1 x) = refl
 
 -- a Bicc that a record may do: condition 0, no annul
-pub never-taken : (cond : ℕ) (annul : Bool) → annul ≡ false → cond ≡ 0 → idleBicc (whichOf cond) annul ≡ true
-unfolding idleBicc whichOf
-never-taken cond annul h e = rw (h, e)
+pub never_taken : (cond : ℕ) (annul : Bool) → annul ≡ false → cond ≡ 0 → idle_bicc (which_of cond) annul ≡ true
+unfolding idle_bicc which_of
+never_taken cond annul h e = rw (h, e)
 
-pub may-be-taken : (cond : ℕ) (annul : Bool) → annul ≡ false → (cond ≡ 0 → ⊥) → idleBicc (whichOf cond) annul ≡ false
-unfolding idleBicc whichOf
-may-be-taken cond annul h n = rw (h, ne_eqb cond 0 n) (either (λ (w : Which). idleBicc w false ≡ false) (eqb cond 8) always depends refl refl)
+pub may_be_taken : (cond : ℕ) (annul : Bool) → annul ≡ false → (cond ≡ 0 → ⊥) → idle_bicc (which_of cond) annul ≡ false
+unfolding idle_bicc which_of
+may_be_taken cond annul h n = rw (h, ne_eqb cond 0 n) (either (λ (w : Which). idle_bicc w false ≡ false) (eqb cond 8) always depends refl refl)
 
 -- the record at hand
-pub at-hand : (records : List ℕ) (r : ℕ) → r < length records / 12 → get_elem? (recordsIn records) r ≡ some (recordAt records r)
-unfolding recordsIn
-at-hand records r h = at_up (recordAt records) (length records / 12) r h
+pub at_hand : (records : List ℕ) (r : ℕ) → r < length records / 12 → get_elem? (records_in records) r ≡ some (record_at records r)
+unfolding records_in
+at_hand records r h = at_up (record_at records) (length records / 12) r h
 
-pub past-last : (records : List ℕ) (r : ℕ) → length records / 12 ≤ r → get_elem? (recordsIn records) r ≡ none
-unfolding recordsIn
-past-last records r h = past_up (recordAt records) (length records / 12) r h
+pub past_last : (records : List ℕ) (r : ℕ) → length records / 12 ≤ r → get_elem? (records_in records) r ≡ none
+unfolding records_in
+past_last records r h = past_up (record_at records) (length records / 12) r h
 
 -- the search of the table: the row at i is the one sought, or it is passed over; past the last there is none
 module _ (places : List ℕ) (a i : ℕ) where
-  pub sought-here : i < length places / 16 → number_at places (16 * i + 8) ≡ 0 → number_at places (16 * i) ≡ a → seek (drop i (rowsIn places)) a ≡ some (number_at places (16 * i + 12))
-  unfolding rowsIn seek row_at
-  sought-here h k p = rw (drop-up (row_at places) (length places / 16) i h, k, p, eq-eqb a a refl)
+  pub sought_here : i < length places / 16 → number_at places (16 * i + 8) ≡ 0 → number_at places (16 * i) ≡ a → seek (drop i (rows_in places)) a ≡ some (number_at places (16 * i + 12))
+  unfolding rows_in seek row_at
+  sought_here h k p = rw (drop_up (row_at places) (length places / 16) i h, k, p, eq-eqb a a refl)
 
-  not-here : i < length places / 16 → eqb (number_at places (16 * i + 8)) 0 && eqb (number_at places (16 * i)) a ≡ false
-      → seek (drop (i + 1) (rowsIn places)) a ≡ seek (drop i (rowsIn places)) a
-  unfolding rowsIn seek row_at
-  not-here h t = rw (add-one i, drop-up (row_at places) (length places / 16) i h, t)
+  not_here : i < length places / 16 → eqb (number_at places (16 * i + 8)) 0 && eqb (number_at places (16 * i)) a ≡ false
+      → seek (drop (i + 1) (rows_in places)) a ≡ seek (drop i (rows_in places)) a
+  unfolding rows_in seek row_at
+  not_here h t = rw (add-one i, drop_up (row_at places) (length places / 16) i h, t)
 
-  pub not_plain : i < length places / 16 → (number_at places (16 * i + 8) ≡ 0 → ⊥) → seek (drop (i + 1) (rowsIn places)) a ≡ seek (drop i (rowsIn places)) a
-  not_plain h n = not-here h (rw (ne_eqb (number_at places (16 * i + 8)) 0 n))
+  pub not_plain : i < length places / 16 → (number_at places (16 * i + 8) ≡ 0 → ⊥) → seek (drop (i + 1) (rows_in places)) a ≡ seek (drop i (rows_in places)) a
+  not_plain h n = not_here h (rw (ne_eqb (number_at places (16 * i + 8)) 0 n))
 
-  pub elsewhere : i < length places / 16 → (number_at places (16 * i) ≡ a → ⊥) → seek (drop (i + 1) (rowsIn places)) a ≡ seek (drop i (rowsIn places)) a
-  elsewhere h n = not-here h (rw (ne_eqb (number_at places (16 * i)) a n, and-false (eqb (number_at places (16 * i + 8)) 0)))
+  pub elsewhere : i < length places / 16 → (number_at places (16 * i) ≡ a → ⊥) → seek (drop (i + 1) (rows_in places)) a ≡ seek (drop i (rows_in places)) a
+  elsewhere h n = not_here h (rw (ne_eqb (number_at places (16 * i)) a n, and-false (eqb (number_at places (16 * i + 8)) 0)))
 
-  pub not-anywhere : length places / 16 ≤ i → seek (drop i (rowsIn places)) a ≡ none
-  unfolding rowsIn seek
-  not-anywhere h = rw (drop-all-up (row_at places) (length places / 16) i h)
+  pub not_anywhere : length places / 16 ≤ i → seek (drop i (rows_in places)) a ≡ none
+  unfolding rows_in seek
+  not_anywhere h = rw (drop_all_up (row_at places) (length places / 16) i h)
 
 -- the record that starts at a position, from its first two numbers
 pub read_as : (records : List ℕ) (at r kind x : ℕ) → at ≡ 12 * r → kind ≡ number_at records at → x ≡ number_at records (at + 4)
-    → recordAt records r ≡ recordOf kind x (number_at records (at + 8))
-unfolding recordAt
+    → record_at records r ≡ record_of kind x (number_at records (at + 8))
+unfolding record_at
 read_as records at r kind x e k h = rw (k, h, e)
 
 abbrev kinds : ℕ → ℕ → List (ℕ × Rec ℕ)
-kinds x y = (1, doWord x) ∷ (2, link x) ∷ (3, hold x y) ∷ (4, goIf x y) ∷ (5, goTo x) ∷ (6, goHeld) ∷ (7, stop x y) ∷ []
+kinds x y = (1, do_word x) ∷ (2, link x) ∷ (3, hold x y) ∷ (4, go_if x y) ∷ (5, go_to x) ∷ (6, go_held) ∷ (7, stop x y) ∷ []
 
-pub no_kind : (kind x y : ℕ) → Misses (Unit {0}) (kinds x y) kind → recordOf kind x y ≡ unknown
-unfolding recordOf
+pub no_kind : (kind x y : ℕ) → Misses (Unit {0}) (kinds x y) kind → record_of kind x y ≡ unknown
+unfolding record_of
 no_kind kind x y m = find_none (kinds x y) unknown kind m

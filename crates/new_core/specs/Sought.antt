@@ -4,6 +4,6 @@ use Rattle.std.proofs.Math.Option.{Option, none, some}
 use Rattle.new_core.specs.declared.Sought.{Sought}
 use Rattle.new_core.specs.declared.Sought.TheVariants.{Record, Nothing}
 
-unfoldable pub soughtOf : Sought → Option ℕ
-soughtOf (Record r) = some r.0
-soughtOf Nothing = none
+unfoldable pub sought_of : Sought → Option ℕ
+sought_of (Record r) = some r.0
+sought_of Nothing = none

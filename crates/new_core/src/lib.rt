@@ -3,16 +3,16 @@ ghost use Rattle.std.specs.Prelude.{◌≡◌, ℕ, ◌+◌, ◌*◌, ◌≤◌,
 ghost use Rattle.std.proofs.Math.Option.{some};
 ghost use Rattle.numbers.specs.Choice.{pick};
 ghost use Rattle.numbers.specs.Number.{plus};
-ghost use Rattle.machine.specs.Ends.{ending, endingOf, go, halt, isGoing, live, left, settle, within};
-ghost use Rattle.machine.specs.Registers.{putRegister};
+ghost use Rattle.machine.specs.Ends.{ending, ending_of, go, halt, is_going, live, left, settle, within};
+ghost use Rattle.machine.specs.Registers.{put_register};
 ghost use Rattle.effects.specs.Effect.{machine, effect_of};
 ghost use Rattle.model.specs.Run.{run, zeroed, data_of, beyond, lent};
-ghost use Rattle.model.specs.OldCore.{transferOf, inImage};
-ghost use Rattle.model.specs.Places.{whichOf, idleBicc};
-ghost use Rattle.model.specs.Records.{rowsIn, recordAt};
-ghost use Rattle.model.specs.NewCore.{new, following, fit, holds, chooses, seek, lost, goes, stops, does, newNext, newBegun};
-ghost use Rattle.states.specs.NewState.{newOf, newState};
-ghost use Rattle.new_core.specs.Sought.{soughtOf};
+ghost use Rattle.model.specs.OldCore.{transfer_of, in_image};
+ghost use Rattle.model.specs.Places.{which_of, idle_bicc};
+ghost use Rattle.model.specs.Records.{rows_in, record_at};
+ghost use Rattle.model.specs.NewCore.{new, following, fit, holds, chooses, seek, lost, goes, stops, does, new_next, new_begun};
+ghost use Rattle.states.specs.NewState.{new_of, new_state};
+ghost use Rattle.new_core.specs.Sought.{sought_of};
 
 use effects::effect::perform;
 use machine::registers::{File, address, put};
@@ -29,7 +29,7 @@ fn next_record(k: TargetPc) -> TargetPc
 
 // The run goes on at a record.
 fn go_to(c: NewControl, f: Flags, to: TargetPc) -> NewControl
-    ensures { (rs a : List ℕ) → newState rs result a ≡ live (new (machine rs f.nzvc a) to.0 c.held.0) }
+    ensures { (rs a : List ℕ) → new_state rs result a ≡ live (new (machine rs f.nzvc a) to.0 c.held.0) }
 {
     let h = c.held;
     NewControl {
@@ -42,7 +42,7 @@ fn go_to(c: NewControl, f: Flags, to: TargetPc) -> NewControl
 
 // The run goes on at the next record.
 fn follow(c: NewControl, f: Flags) -> NewControl
-    ensures { (rs a : List ℕ) → newState rs result a ≡ live (following c.at.0 c.held.0 (machine rs f.nzvc a)) }
+    ensures { (rs a : List ℕ) → new_state rs result a ≡ live (following c.at.0 c.held.0 (machine rs f.nzvc a)) }
 {
     let k = c.at;
     go_to(c, f, next_record(k))
@@ -50,7 +50,7 @@ fn follow(c: NewControl, f: Flags) -> NewControl
 
 // The run ends, and nothing else changes.
 fn stop(c: NewControl, e: End) -> NewControl
-    ensures { (rs a : List ℕ) → newState rs result a ≡ left (newOf rs c a) e }
+    ensures { (rs a : List ℕ) → new_state rs result a ≡ left (new_of rs c a) e }
 {
     let f = c.flags;
     let k = c.at;
@@ -65,7 +65,7 @@ fn stop(c: NewControl, e: End) -> NewControl
 
 // The record at hand is a bad one.
 fn bad(c: NewControl) -> NewControl
-    ensures { (rs a : List ℕ) → newState rs result a ≡ settle (newOf rs c a) (halt (ending 7 c.at.0)) }
+    ensures { (rs a : List ℕ) → new_state rs result a ≡ settle (new_of rs c a) (halt (ending 7 c.at.0)) }
 {
     let k = c.at;
     stop(c, End::BadRecord(k))
@@ -74,7 +74,7 @@ fn bad(c: NewControl) -> NewControl
 // A word that does not transfer control, then the next record, or the end. Its effect is done in here and not handed over: so the compiler
 // sees where each word goes on, and tests no end of a word that has none.
 fn do_effect(i: Instruction, db: u32, regs: &mut File, c: NewControl, area: &mut [u8]) -> NewControl
-    ensures { newState regs.new result area.new ≡ settle (newOf regs.old c area.old) (within (following c.at.0 c.held.0) (effect_of db i (machine regs.old c.flags.nzvc area.old))) }
+    ensures { new_state regs.new result area.new ≡ settle (new_of regs.old c area.old) (within (following c.at.0 c.held.0) (effect_of db i (machine regs.old c.flags.nzvc area.old))) }
 {
     let f = c.flags;
     let e = perform(i, db, regs, f, area);
@@ -87,7 +87,7 @@ fn do_effect(i: Instruction, db: u32, regs: &mut File, c: NewControl, area: &mut
 
 // Of the branches a record may do one that is never taken and annuls nothing.
 fn do_branch(c: NewControl, cond: u32, annul: bool) -> NewControl
-    ensures { (rs a : List ℕ) → newState rs result a ≡ settle (newOf rs c a) (pick (idleBicc (whichOf cond) annul) (go (following c.at.0 c.held.0 (machine rs c.flags.nzvc a))) (halt (ending 7 c.at.0))) }
+    ensures { (rs a : List ℕ) → new_state rs result a ≡ settle (new_of rs c a) (pick (idle_bicc (which_of cond) annul) (go (following c.at.0 c.held.0 (machine rs c.flags.nzvc a))) (halt (ending 7 c.at.0))) }
 {
     let f = c.flags;
     if annul {
@@ -101,7 +101,7 @@ fn do_branch(c: NewControl, cond: u32, annul: bool) -> NewControl
 
 // Kind 1: do the word.
 fn do_word(i: Instruction, db: u32, regs: &mut File, c: NewControl, area: &mut [u8]) -> NewControl
-    ensures { newState regs.new result area.new ≡ settle (newOf regs.old c area.old) (pick (fit (transferOf i)) (within (following c.at.0 c.held.0) (effect_of db i (machine regs.old c.flags.nzvc area.old))) (halt (ending 7 c.at.0))) }
+    ensures { new_state regs.new result area.new ≡ settle (new_of regs.old c area.old) (pick (fit (transfer_of i)) (within (following c.at.0 c.held.0) (effect_of db i (machine regs.old c.flags.nzvc area.old))) (halt (ending 7 c.at.0))) }
 {
     match i {
         Instruction::Illegal => bad(c),
@@ -114,7 +114,7 @@ fn do_word(i: Instruction, db: u32, regs: &mut File, c: NewControl, area: &mut [
 
 // Kind 2: register 15 := first.
 fn link(first: SourcePc, regs: &mut File, c: NewControl) -> NewControl
-    ensures { (a : List ℕ) → newState regs.new result a ≡ live (following c.at.0 c.held.0 (machine (putRegister regs.old 15 first.0) c.flags.nzvc a)) }
+    ensures { (a : List ℕ) → new_state regs.new result a ≡ live (following c.at.0 c.held.0 (machine (put_register regs.old 15 first.0) c.flags.nzvc a)) }
 {
     let f = c.flags;
     put(regs, 15, first.0);
@@ -123,7 +123,7 @@ fn link(first: SourcePc, regs: &mut File, c: NewControl) -> NewControl
 
 // Kind 3: hold where the jmpl leads. The address is taken from the registers before rd is written.
 fn hold(i: Instruction, source: SourcePc, regs: &mut File, c: NewControl) -> NewControl
-    ensures { (a : List ℕ) → newState regs.new result a ≡ settle (newOf regs.old c a) (holds (transferOf i) source.0 (machine regs.old c.flags.nzvc a) c.at.0) }
+    ensures { (a : List ℕ) → new_state regs.new result a ≡ settle (new_of regs.old c a) (holds (transfer_of i) source.0 (machine regs.old c.flags.nzvc a) c.at.0) }
 {
     let f = c.flags;
     let k = c.at;
@@ -148,7 +148,7 @@ fn hold(i: Instruction, source: SourcePc, regs: &mut File, c: NewControl) -> New
 
 // Kind 4: go to a record if a condition holds.
 fn choose(cond: u32, to: TargetPc, c: NewControl) -> NewControl
-    ensures { (rs a : List ℕ) → newState rs result a ≡ settle (newOf rs c a) (chooses cond to.0 (machine rs c.flags.nzvc a) c.at.0 c.held.0) }
+    ensures { (rs a : List ℕ) → new_state rs result a ≡ settle (new_of rs c a) (chooses cond to.0 (machine rs c.flags.nzvc a) c.at.0 c.held.0) }
 {
     let f = c.flags;
     if cond <= 15 {
@@ -169,7 +169,7 @@ pub enum Sought {
 
 // Searches the place table to its end.
 fn search(places: &[u8], a: SourcePc) -> Sought
-    ensures { soughtOf result ≡ seek (rowsIn places.now) a.0 }
+    ensures { sought_of result ≡ seek (rows_in places.now) a.0 }
 {
     let n = places.len() / 16;
     let mut i: usize = 0;
@@ -186,17 +186,17 @@ fn search(places: &[u8], a: SourcePc) -> Sought
 }
 
 // Whether an address lies in the image.
-fn in_image(base: u32, size: u32, a: SourcePc) -> bool
-    ensures { result ≡ inImage base size a.0 }
+fn address_in_image(base: u32, size: u32, a: SourcePc) -> bool
+    ensures { result ≡ in_image base size a.0 }
 {
     numbers::subtract(a.0, base) as u64 + 4 <= size as u64
 }
 
 // How a run ends at an address that has no plain place.
 fn lost_at(base: u32, size: u32, a: SourcePc) -> End
-    ensures { endingOf result ≡ lost (inImage base size a.0) a.0 }
+    ensures { ending_of result ≡ lost (in_image base size a.0) a.0 }
 {
-    if in_image(base, size, a) {
+    if address_in_image(base, size, a) {
         return End::NoPlace(a);
     }
     End::Outside(a)
@@ -204,7 +204,7 @@ fn lost_at(base: u32, size: u32, a: SourcePc) -> End
 
 // Kind 6: go by the held address.
 fn go_held(places: &[u8], base: u32, size: u32, c: NewControl) -> NewControl
-    ensures { (rs a : List ℕ) → newState rs result a ≡ settle (newOf rs c a) (goes (seek (rowsIn places.now) c.held.0) (inImage base size c.held.0) (machine rs c.flags.nzvc a) c.held.0) }
+    ensures { (rs a : List ℕ) → new_state rs result a ≡ settle (new_of rs c a) (goes (seek (rows_in places.now) c.held.0) (in_image base size c.held.0) (machine rs c.flags.nzvc a) c.held.0) }
 {
     let f = c.flags;
     let h = c.held;
@@ -217,7 +217,7 @@ fn go_held(places: &[u8], base: u32, size: u32, c: NewControl) -> NewControl
 
 // Kind 7: end as first says, at address second.
 fn stop_as(first: u32, second: SourcePc, c: NewControl) -> NewControl
-    ensures { (rs a : List ℕ) → newState rs result a ≡ settle (newOf rs c a) (stops first second.0 c.at.0) }
+    ensures { (rs a : List ℕ) → new_state rs result a ≡ settle (new_of rs c a) (stops first second.0 c.at.0) }
 {
     match first {
         2 => stop(c, End::Outside(second)),
@@ -240,7 +240,7 @@ fn obey(
     area: &mut [u8],
 ) -> NewControl
     requires { (at ≡ 12 * c.at.0) × (at + 12 ≤ length records.now) }
-    ensures { newState regs.new result area.new ≡ settle (newOf regs.old c area.old) (does (rowsIn places.now) base size db (some (recordAt records.now c.at.0)) (machine regs.old c.flags.nzvc area.old) c.at.0 c.held.0) }
+    ensures { new_state regs.new result area.new ≡ settle (new_of regs.old c area.old) (does (rows_in places.now) base size db (some (record_at records.now c.at.0)) (machine regs.old c.flags.nzvc area.old) c.at.0 c.held.0) }
 {
     let f = c.flags;
     let kind = numbers::read_number(records, at);
@@ -273,7 +273,7 @@ fn proceed(
     c: NewControl,
     area: &mut [u8],
 ) -> NewControl
-    ensures { newState regs.new result area.new ≡ settle (newOf regs.old c area.old) (newNext records.now places.now base size db (newOf regs.old c area.old)) }
+    ensures { new_state regs.new result area.new ≡ settle (new_of regs.old c area.old) (new_next records.now places.now base size db (new_of regs.old c area.old)) }
 {
     let k = c.at;
     let n = k.0 as usize;
@@ -295,7 +295,7 @@ fn steps(
     area: &mut [u8],
     count: u16,
 ) -> NewControl
-    ensures { newState regs.new result area.new ≡ run (newNext records.now places.now base size db) count (newState regs.old c area.old) }
+    ensures { new_state regs.new result area.new ≡ run (new_next records.now places.now base size db) count (new_state regs.old c area.old) }
 {
     let mut s = c;
     let mut i: u16 = 0;
@@ -312,7 +312,7 @@ fn steps(
 
 // At a record, with nothing held.
 fn begun(f: Flags, to: TargetPc, e: End) -> NewControl
-    ensures { (rs a : List ℕ) → newState rs result a ≡ left (new (machine rs f.nzvc a) to.0 0) e }
+    ensures { (rs a : List ℕ) → new_state rs result a ≡ left (new (machine rs f.nzvc a) to.0 0) e }
 {
     NewControl {
         flags: f,
@@ -331,7 +331,7 @@ pub fn begin(
     c: NewControl,
     a: SourcePc,
 ) -> NewControl
-    ensures { (area : List ℕ) → newState regs.new result area ≡ newBegun places.now base size a.0 (machine (zeroed regs.old) c.flags.nzvc area) }
+    ensures { (area : List ℕ) → new_state regs.new result area ≡ new_begun places.now base size a.0 (machine (zeroed regs.old) c.flags.nzvc area) }
 {
     regs[0] = 0;
     let f = c.flags;
@@ -354,7 +354,7 @@ pub fn run(
     area: &mut [u8],
     count: u16,
 ) -> NewControl
-    ensures { lent (newState regs.new result (data_of area.new)) (beyond area.new) ≡ lent (run (newNext records.now places.now base size db) count (newState (zeroed regs.old) c (data_of area.old))) (beyond area.old) }
+    ensures { lent (new_state regs.new result (data_of area.new)) (beyond area.new) ≡ lent (run (new_next records.now places.now base size db) count (new_state (zeroed regs.old) c (data_of area.old))) (beyond area.old) }
 {
     regs[0] = 0;
     let n = effects::data_area::data_length(area.len());

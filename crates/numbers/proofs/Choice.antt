@@ -4,9 +4,9 @@ use mathlib.Core.Bool.{false≢true}
 use Rattle.numbers.specs.Choice.{pick, find}
 
 -- one of two by a test, from what the test says
-pub by-test : {A : Type 0} (t : Bool) (r a b : A) → (t ≡ true → r ≡ a) → (t ≡ false → r ≡ b) → r ≡ pick t a b
-by-test true r a b f g = f refl
-by-test false r a b f g = g refl
+pub by_test : {A : Type 0} (t : Bool) (r a b : A) → (t ≡ true → r ≡ a) → (t ≡ false → r ≡ b) → r ≡ pick t a b
+by_test true r a b f g = f refl
+by_test false r a b f g = g refl
 
 -- of two tests that pass, each does
 pub both : (a b : Bool) → a && b ≡ true → (a ≡ true) × (b ≡ true)
@@ -36,23 +36,23 @@ missed U (row ∷ rows) more d k m =
     (t.0.0, rw (ne_eqb k row.0 t.0.1) t.1)
 
 -- the rows behind them are left
-pub find-behind : {A : Type 0} (rows more : List (ℕ × A)) (d : A) (k : ℕ) → Misses (Unit {0}) rows k → find (rows ++ more) d k ≡ find more d k
-find-behind rows more d k m = (missed (Unit {0}) rows more d k m).1
+pub find_behind : {A : Type 0} (rows more : List (ℕ × A)) (d : A) (k : ℕ) → Misses (Unit {0}) rows k → find (rows ++ more) d k ≡ find more d k
+find_behind rows more d k m = (missed (Unit {0}) rows more d k m).1
 
 pub find_none : {A : Type 0} (rows : List (ℕ × A)) (d : A) (k : ℕ) → Misses (Unit {0}) rows k → find rows d k ≡ d
-find_none rows d k m = rw (append-nil rows) at (find-behind rows [] d k m)
+find_none rows d k m = rw (append-nil rows) at (find_behind rows [] d k m)
 
 -- a test that passes for every row's key and value, and for the other value, passes for the key and what is found
 abbrev pub every : {A : Type 0} → (ℕ → A → Bool) → List (ℕ × A) → Bool
 every test [] = true
 every test (row ∷ rows) = pick (test row.0 row.1) (every test rows) false
 
-pub found-passes : {A : Type 0} (test : ℕ → A → Bool) (rows : List (ℕ × A)) (d : A) (k : ℕ) → every test rows ≡ true → test k d ≡ true
+pub found_passes : {A : Type 0} (test : ℕ → A → Bool) (rows : List (ℕ × A)) (d : A) (k : ℕ) → every test rows ≡ true → test k d ≡ true
     → test k (find rows d k) ≡ true
-found-passes test [] d k h p = p
-found-passes test (row ∷ rows) d k h p =
+found_passes test [] d k h p = p
+found_passes test (row ∷ rows) d k h p =
     let t = split (test row.0 row.1) (every test rows) h in
-    go (eqb k row.0) refl t.0 (found-passes test rows d k t.1 p)
+    go (eqb k row.0) refl t.0 (found_passes test rows d k t.1 p)
   where
     split : (a b : Bool) → pick a b false ≡ true → (a ≡ true) × (b ≡ true)
     split true b e = (refl, e)

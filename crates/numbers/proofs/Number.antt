@@ -5,10 +5,10 @@ use lib.Seq.{paste, paste-suc, drop-nil}
 use lib.ListN.{get_or-append}
 use borrow.Author.Fill.{fill_more}
 use Rattle.numbers.specs.Choice.{pick}
-use Rattle.numbers.specs.Number.{Below, minus, putNumber, zeroFrom, number_at, numbersOf, bytes_of, up_to}
-use Rattle.numbers.proofs.Choice.{by-test}
+use Rattle.numbers.specs.Number.{Below, minus, put_number, zero_from, number_at, numbers_of, bytes_of, up_to}
+use Rattle.numbers.proofs.Choice.{by_test}
 use Rattle.numbers.proofs.Bounds.{below_get}
-use Rattle.numbers.proofs.Lists.{length_up, up-list}
+use Rattle.numbers.proofs.Lists.{length_up, up_list}
 
 -- the lowest byte of a sum, and the rest
 lowest : (a q : ℕ) → a < 256 → (a + q * 256) % 256 ≡ a
@@ -16,27 +16,27 @@ lowest a q p = omega arith
 
 -- a little-endian sum of four bytes, and its bytes
 module _ (a b c d : ℕ) (p : a < 256) (q : b < 256) (r : c < 256) (s : d < 256) (x : ℕ) (i : x ≡ a + b * 256 + c * 65536 + d * 16777216) where
-  pub its-bytes : (x % 256 ≡ a) × (x / 256 % 256 ≡ b) × (x / 65536 % 256 ≡ c) × (x / 16777216 ≡ d)
-  its-bytes =
+  pub its_bytes : (x % 256 ≡ a) × (x / 256 % 256 ≡ b) × (x / 65536 % 256 ≡ c) × (x / 16777216 ≡ d)
+  its_bytes =
       let f : x / 256 ≡ b + (c + d * 256) * 256 = omega arith in
       let g : x / 65536 ≡ c + d * 256 = omega arith in
       (omega arith, rw f (lowest b (c + d * 256) q), rw g (lowest c d r), omega arith)
 
   -- in reverse order
   pub reversed : x % 256 * 16777216 + x / 256 % 256 * 65536 + x / 65536 % 256 * 256 + x / 16777216 ≡ a * 2 ^ 24 + b * 2 ^ 16 + c * 2 ^ 8 + d
-  reversed = rw (its-bytes.0, its-bytes.1, its-bytes.2, its-bytes.3)
+  reversed = rw (its_bytes.0, its_bytes.1, its_bytes.2, its_bytes.3)
 
 -- one more byte is cleared
-pub clear-more : (n i : ℕ) (l : List ℕ) → n ≤ i → i < length l
+pub clear_more : (n i : ℕ) (l : List ℕ) → n ≤ i → i < length l
     → set (take n l ++ replicate (i - n) 0 ++ drop i l) i 0 ≡ take n l ++ replicate (i + 1 - n) 0 ++ drop (i + 1) l
-clear-more zero i l h k = rw (sub-zero i, sub-zero (i + 1)) (fill_more i 0 l k)
-clear-more (suc n) zero l h k = absurd (omega arith)
-clear-more (suc n) (suc i) [] h k = absurd (omega arith)
-clear-more (suc n) (suc i) (x ∷ l) h k =
+clear_more zero i l h k = rw (sub-zero i, sub-zero (i + 1)) (fill_more i 0 l k)
+clear_more (suc n) zero l h k = absurd (omega arith)
+clear_more (suc n) (suc i) [] h k = absurd (omega arith)
+clear_more (suc n) (suc i) (x ∷ l) h k =
     let e1 : suc i - suc n ≡ i - n = omega arith in
     let e2 : suc i + 1 - suc n ≡ i + 1 - n = omega arith in
     let e3 : suc i + 1 ≡ suc (i + 1) = omega arith in
-    rw (e1, e2, e3) (ap (λ (t : List ℕ). x ∷ t) (clear-more n i l (omega arith) (omega arith)))
+    rw (e1, e2, e3) (ap (λ (t : List ℕ). x ∷ t) (clear_more n i l (omega arith) (omega arith)))
 
 pub clear_none : (n : ℕ) (l : List ℕ) → n ≤ length l → l ≡ take n l ++ replicate (n - n) 0 ++ drop n l
 clear_none zero l h = refl
@@ -45,21 +45,21 @@ clear_none (suc n) (x ∷ l) h =
     let e : suc n - suc n ≡ n - n = omega arith in
     rw e (ap (λ (t : List ℕ). x ∷ t) (clear_none n l (omega arith)))
 
-pub clear-done : (n i : ℕ) (l : List ℕ) → length l ≤ i → i ≤ length l → take n l ++ replicate (i - n) 0 ++ drop i l ≡ zeroFrom n l
-unfolding zeroFrom
-clear-done n i l h k =
+pub clear_done : (n i : ℕ) (l : List ℕ) → length l ≤ i → i ≤ length l → take n l ++ replicate (i - n) 0 ++ drop i l ≡ zero_from n l
+unfolding zero_from
+clear_done n i l h k =
     let e : i ≡ length l = omega arith in
     rw (drop_of_length-le l {i = i} h, e) (rw append-nil)
 
-pub length-put : (l : List ℕ) (at v : ℕ) → length (putNumber l at v) ≡ length l
-unfolding putNumber
-length-put l at v = simp length-set
+pub length_put : (l : List ℕ) (at v : ℕ) → length (put_number l at v) ≡ length l
+unfolding put_number
+length_put l at v = simp length-set
 
 -- a sign extended by a sum and a difference, over the weight of the sign bit
-pub extend-by-sum : (h v : ℕ) → v < h + h → h + h ≤ 2 ^ 32 → minus ((v + h) % (h + h)) h ≡ pick (ltb v h) v (v + (2 ^ 32 - (h + h)))
+pub extend_by_sum : (h v : ℕ) → v < h + h → h + h ≤ 2 ^ 32 → minus ((v + h) % (h + h)) h ≡ pick (ltb v h) v (v + (2 ^ 32 - (h + h)))
 unfolding minus
-extend-by-sum h v b l =
-    by-test (ltb v h) (((v + h) % (h + h) + 2 ^ 32 - h) % 2 ^ 32) v (v + (2 ^ 32 - (h + h)))
+extend_by_sum h v b l =
+    by_test (ltb v h) (((v + h) % (h + h) + 2 ^ 32 - h) % 2 ^ 32) v (v + (2 ^ 32 - (h + h)))
     (λ t. let p : v < h = ltb-true v h t in let e : (v + h) % (h + h) ≡ v + h = mod-eq_of_lt (omega arith) in rw e (omega arith))
     (λ t. let p : h ≤ v = ltb-false v h t in
     let e : (v + h) % (h + h) ≡ v - h = mod-eq-sub-mod (omega arith) ∙ mod-eq_of_lt (omega arith) ∙ omega arith in
@@ -67,65 +67,65 @@ extend-by-sum h v b l =
     rw (e, f) (omega arith))
 
 -- the bytes of a list of numbers, and one of them
-pub length-bytes : (vs : List ℕ) → length (bytes_of vs) ≡ 4 * length vs
+pub length_bytes : (vs : List ℕ) → length (bytes_of vs) ≡ 4 * length vs
 unfolding bytes_of
-length-bytes [] = refl
-length-bytes (v ∷ vs) = rw (length-bytes vs) (omega arith)
+length_bytes [] = refl
+length_bytes (v ∷ vs) = rw (length_bytes vs) (omega arith)
 
-bytes-from : (vs : List ℕ) (i k : ℕ) → get_or (bytes_of vs) (4 * i + k) 0 ≡ get_or (bytes_of (drop i vs)) k 0
+bytes_from : (vs : List ℕ) (i k : ℕ) → get_or (bytes_of vs) (4 * i + k) 0 ≡ get_or (bytes_of (drop i vs)) k 0
 unfolding bytes_of
-bytes-from [] i k = rw (drop-nil i)
-bytes-from (v ∷ vs) zero k = let e : 4 * 0 + k ≡ k = omega arith in rw e
-bytes-from (v ∷ vs) (suc i) k =
+bytes_from [] i k = rw (drop-nil i)
+bytes_from (v ∷ vs) zero k = let e : 4 * 0 + k ≡ k = omega arith in rw e
+bytes_from (v ∷ vs) (suc i) k =
     let e : 4 * suc i + k ≡ suc (suc (suc (suc (4 * i + k)))) = omega arith in
-    rw e (bytes-from vs i k)
+    rw e (bytes_from vs i k)
 
 -- the four bytes of the number at i stand at 4 i, and at 1, 2 and 3 further
 pub record BytesAt (vs : List ℕ) (i v : ℕ) : Type 0 where
-  pub byte-0 : get_or (bytes_of vs) (4 * i) 0 ≡ v / 2 ^ 24 % 256
-  pub byte-1 : get_or (bytes_of vs) (4 * i + 1) 0 ≡ v / 2 ^ 16 % 256
-  pub byte-2 : get_or (bytes_of vs) (4 * i + 2) 0 ≡ v / 2 ^ 8 % 256
-  pub byte-3 : get_or (bytes_of vs) (4 * i + 3) 0 ≡ v % 256
+  pub byte_0 : get_or (bytes_of vs) (4 * i) 0 ≡ v / 2 ^ 24 % 256
+  pub byte_1 : get_or (bytes_of vs) (4 * i + 1) 0 ≡ v / 2 ^ 16 % 256
+  pub byte_2 : get_or (bytes_of vs) (4 * i + 2) 0 ≡ v / 2 ^ 8 % 256
+  pub byte_3 : get_or (bytes_of vs) (4 * i + 3) 0 ≡ v % 256
 
-bytes-at : (vs : List ℕ) (i : ℕ) → i < length vs → BytesAt vs i (get_or vs i 0)
+bytes_at : (vs : List ℕ) (i : ℕ) → i < length vs → BytesAt vs i (get_or vs i 0)
 unfolding bytes_of
-bytes-at vs i h =
+bytes_at vs i h =
     let e : drop i vs ≡ get_or vs i 0 ∷ drop (suc i) vs = drop-cons vs i 0 h in
     record {
-      byte-0 = ap (λ (n : ℕ). get_or (bytes_of vs) n 0) (sym (add-zero (4 * i))) ∙ bytes-from vs i 0 ∙ rw e;
-      byte-1 = bytes-from vs i 1 ∙ rw e;
-      byte-2 = bytes-from vs i 2 ∙ rw e;
-      byte-3 = bytes-from vs i 3 ∙ rw e;
+      byte_0 = ap (λ (n : ℕ). get_or (bytes_of vs) n 0) (sym (add-zero (4 * i))) ∙ bytes_from vs i 0 ∙ rw e;
+      byte_1 = bytes_from vs i 1 ∙ rw e;
+      byte_2 = bytes_from vs i 2 ∙ rw e;
+      byte_3 = bytes_from vs i 3 ∙ rw e;
     }
 
 -- a number of 32 bits comes back from its four bytes, one byte after the other
-next-byte : (u c : ℕ) → u / 256 ≡ c → c * 256 + u % 256 ≡ u
-next-byte u c e = omega arith
+next_byte : (u c : ℕ) → u / 256 ≡ c → c * 256 + u % 256 ≡ u
+next_byte u c e = omega arith
 
 join : (v a b c d x y z : ℕ) → a ≡ d → d * 256 + b ≡ x → x * 256 + c ≡ y → y * 256 + z ≡ v → a * 2 ^ 24 + b * 2 ^ 16 + c * 2 ^ 8 + z ≡ v
 join v a b c d x y z p q r s = omega arith
 
-number-back : (v : ℕ) → v < 2 ^ 32 → v / 2 ^ 24 % 256 * 2 ^ 24 + v / 2 ^ 16 % 256 * 2 ^ 16 + v / 2 ^ 8 % 256 * 2 ^ 8 + v % 256 ≡ v
-number-back v h =
+number_back : (v : ℕ) → v < 2 ^ 32 → v / 2 ^ 24 % 256 * 2 ^ 24 + v / 2 ^ 16 % 256 * 2 ^ 16 + v / 2 ^ 8 % 256 * 2 ^ 8 + v % 256 ≡ v
+number_back v h =
     join v (v / 2 ^ 24 % 256) (v / 2 ^ 16 % 256) (v / 2 ^ 8 % 256) (v / 2 ^ 24) (v / 2 ^ 16) (v / 2 ^ 8) (v % 256)
-    (omega arith) (next-byte (v / 2 ^ 16) (v / 2 ^ 24) (shr-shr v 16 8)) (next-byte (v / 2 ^ 8) (v / 2 ^ 16) (shr-shr v 8 8))
-    (next-byte v (v / 2 ^ 8) refl)
+    (omega arith) (next_byte (v / 2 ^ 16) (v / 2 ^ 24) (shr-shr v 16 8)) (next_byte (v / 2 ^ 8) (v / 2 ^ 16) (shr-shr v 8 8))
+    (next_byte v (v / 2 ^ 8) refl)
 
 -- what is packed is read back
-pub number-packed : (vs : List ℕ) (i at : ℕ) → Below (2 ^ 32) vs → i < length vs → at ≡ 4 * i → number_at (bytes_of vs) at ≡ get_or vs i 0
+pub number_packed : (vs : List ℕ) (i at : ℕ) → Below (2 ^ 32) vs → i < length vs → at ≡ 4 * i → number_at (bytes_of vs) at ≡ get_or vs i 0
 unfolding number_at
-number-packed vs i at a h e =
-    let b = bytes-at vs i h in
-    rw (e, b.byte-0, b.byte-1, b.byte-2, b.byte-3) (number-back (get_or vs i 0) (below_get (2 ^ 32) vs i (omega arith) a))
+number_packed vs i at a h e =
+    let b = bytes_at vs i h in
+    rw (e, b.byte_0, b.byte_1, b.byte_2, b.byte_3) (number_back (get_or vs i 0) (below_get (2 ^ 32) vs i (omega arith) a))
 
 -- a list of bytes with one more number of a list put into it
-pub put-more : (l : List ℕ) (at : ℕ) (vs : List ℕ) (i : ℕ) → at + 4 * length vs ≤ length l → i < length vs
-    → putNumber (paste l at (bytes_of vs) (4 * i)) (at + 4 * i) (get_or vs i 0) ≡ paste l at (bytes_of vs) (4 * (i + 1))
-unfolding putNumber
-put-more l at vs i h k =
+pub put_more : (l : List ℕ) (at : ℕ) (vs : List ℕ) (i : ℕ) → at + 4 * length vs ≤ length l → i < length vs
+    → put_number (paste l at (bytes_of vs) (4 * i)) (at + 4 * i) (get_or vs i 0) ≡ paste l at (bytes_of vs) (4 * (i + 1))
+unfolding put_number
+put_more l at vs i h k =
     let b = bytes_of vs in
-    let n : length b ≡ 4 * length vs = length-bytes vs in
-    let d : BytesAt vs i (get_or vs i 0) = bytes-at vs i k in
+    let n : length b ≡ 4 * length vs = length_bytes vs in
+    let d : BytesAt vs i (get_or vs i 0) = bytes_at vs i k in
     let more : (j : ℕ) → 4 * i ≤ j → j < 4 * i + 4 → set (paste l at b j) (at + j) (get_or b j 0) ≡ paste l at b (suc j) =
     λ j p q. paste-suc l at b j 0 (omega arith) (omega arith) in
     let e0 : at + 4 * i + 1 ≡ at + (4 * i + 1) = omega arith in
@@ -136,10 +136,10 @@ put-more l at vs i h k =
     let s2 : suc (4 * i + 2) ≡ 4 * i + 3 = omega arith in
     let s3 : suc (4 * i + 3) ≡ 4 * (i + 1) = omega arith in
     rw (
-      ← d.byte-0,
-      ← d.byte-1,
-      ← d.byte-2,
-      ← d.byte-3,
+      ← d.byte_0,
+      ← d.byte_1,
+      ← d.byte_2,
+      ← d.byte_3,
       e0,
       e1,
       e2,
@@ -154,47 +154,47 @@ put-more l at vs i h k =
     )
 
 -- one more number is read
-pub read_more : (bytes list : List ℕ) (i : ℕ) → i < length list → take i list ≡ numbersOf bytes i
-    → take (i + 1) (set list i (number_at bytes (4 * i))) ≡ numbersOf bytes (i + 1)
-unfolding numbersOf up_to
+pub read_more : (bytes list : List ℕ) (i : ℕ) → i < length list → take i list ≡ numbers_of bytes i
+    → take (i + 1) (set list i (number_at bytes (4 * i))) ≡ numbers_of bytes (i + 1)
+unfolding numbers_of up_to
 read_more bytes list i h e = rw (add-one i, take-suc-set list i (number_at bytes (4 * i)) h, e)
 
-pub bytes-append : (vs ws : List ℕ) → bytes_of (vs ++ ws) ≡ bytes_of vs ++ bytes_of ws
+pub bytes_append : (vs ws : List ℕ) → bytes_of (vs ++ ws) ≡ bytes_of vs ++ bytes_of ws
 unfolding bytes_of
-bytes-append [] ws = refl
-bytes-append (v ∷ vs) ws = rw (bytes-append vs ws)
+bytes_append [] ws = refl
+bytes_append (v ∷ vs) ws = rw (bytes_append vs ws)
 
 -- lists of numbers written one behind the other: ws comes behind vs, and of what was there the rest stays
-pub fill-next : (s s' vs ws t : List ℕ) (n : ℕ) → n ≡ 4 * length vs → s ≡ bytes_of vs ++ t
+pub fill_next : (s s' vs ws t : List ℕ) (n : ℕ) → n ≡ 4 * length vs → s ≡ bytes_of vs ++ t
     → s' ≡ take n s ++ bytes_of ws ++ drop (n + 4 * length ws) s → s' ≡ bytes_of (vs ++ ws) ++ drop (4 * length ws) t
-fill-next s s' vs ws t n e p q =
-    let b : length (bytes_of vs) ≡ n = length-bytes vs ∙ sym e in
+fill_next s s' vs ws t n e p q =
+    let b : length (bytes_of vs) ≡ n = length_bytes vs ∙ sym e in
     q
     ∙ rw (
       p,
       take_at (bytes_of vs) t n b,
       ← drop-drop (4 * length ws) n (bytes_of vs ++ t),
       drop_at (bytes_of vs) t n b,
-      bytes-append vs ws,
+      bytes_append vs ws,
       append_assoc (bytes_of vs) (bytes_of ws) (drop (4 * length ws) t),
     )
 
 -- the bytes past a number are those of the numbers past it
-pub drop-bytes : (k : ℕ) (vs : List ℕ) → drop (4 * k) (bytes_of vs) ≡ bytes_of (drop k vs)
+pub drop_bytes : (k : ℕ) (vs : List ℕ) → drop (4 * k) (bytes_of vs) ≡ bytes_of (drop k vs)
 unfolding bytes_of
-drop-bytes zero vs = refl
-drop-bytes (suc k) [] = drop-nil (4 * suc k)
-drop-bytes (suc k) (v ∷ vs) =
+drop_bytes zero vs = refl
+drop_bytes (suc k) [] = drop-nil (4 * suc k)
+drop_bytes (suc k) (v ∷ vs) =
     let e : 4 * suc k ≡ suc (suc (suc (suc (4 * k)))) = omega arith in
-    rw e (drop-bytes k vs)
+    rw e (drop_bytes k vs)
 
 -- the first numbers come back from the bytes
-pub numbers-front : (vs ws : List ℕ) → Below (2 ^ 32) (vs ++ ws) → numbersOf (bytes_of (vs ++ ws)) (length vs) ≡ vs
-unfolding numbersOf
-numbers-front vs ws b =
-    up-list 0 (λ i. number_at (bytes_of (vs ++ ws)) (4 * i)) vs
-    (λ i h. number-packed (vs ++ ws) i (4 * i) b (omega (arith, length-append vs ws)) refl ∙ get_or-append vs ws 0 i h)
+pub numbers_front : (vs ws : List ℕ) → Below (2 ^ 32) (vs ++ ws) → numbers_of (bytes_of (vs ++ ws)) (length vs) ≡ vs
+unfolding numbers_of
+numbers_front vs ws b =
+    up_list 0 (λ i. number_at (bytes_of (vs ++ ws)) (4 * i)) vs
+    (λ i h. number_packed (vs ++ ws) i (4 * i) b (omega (arith, length-append vs ws)) refl ∙ get_or-append vs ws 0 i h)
 
-pub length-numbers : (bytes : List ℕ) (n : ℕ) → length (numbersOf bytes n) ≡ n
-unfolding numbersOf
-length-numbers bytes n = length_up (λ i. number_at bytes (4 * i)) n
+pub length_numbers : (bytes : List ℕ) (n : ℕ) → length (numbers_of bytes n) ≡ n
+unfolding numbers_of
+length_numbers bytes n = length_up (λ i. number_at bytes (4 * i)) n

@@ -19,8 +19,8 @@ unfoldable pub number_at : List ℕ → ℕ → ℕ
 number_at bytes at = slice_index bytes at * 2 ^ 24 + slice_index bytes (at + 1) * 2 ^ 16 + slice_index bytes (at + 2) * 2 ^ 8 + slice_index bytes (at + 3)
 
 -- the list with a number's four bytes put at a position
-unfoldable pub putNumber : List ℕ → ℕ → ℕ → List ℕ
-putNumber bytes at v =
+unfoldable pub put_number : List ℕ → ℕ → ℕ → List ℕ
+put_number bytes at v =
     slice_set (slice_set (slice_set (slice_set bytes at (v / 2 ^ 24 % 256)) (at + 1) (v / 2 ^ 16 % 256)) (at + 2) (v / 2 ^ 8 % 256)) (at + 3) (v % 256)
 
 -- f 0, f 1, .. up to and without f n
@@ -29,8 +29,8 @@ up_to f zero = []
 up_to f (suc n) = up_to f n ++ (f n ∷ [])
 
 -- the first n numbers of an area
-unfoldable pub numbersOf : List ℕ → ℕ → List ℕ
-numbersOf bytes n = up_to (λ i. number_at bytes (4 * i)) n
+unfoldable pub numbers_of : List ℕ → ℕ → List ℕ
+numbers_of bytes n = up_to (λ i. number_at bytes (4 * i)) n
 
 -- the bytes of a list of numbers
 unfoldable pub bytes_of : List ℕ → List ℕ
@@ -38,8 +38,8 @@ bytes_of [] = []
 bytes_of (v ∷ vs) = v / 2 ^ 24 % 256 ∷ v / 2 ^ 16 % 256 ∷ v / 2 ^ 8 % 256 ∷ v % 256 ∷ bytes_of vs
 
 -- the first n bytes as they are, and 0 for each byte after them
-unfoldable pub zeroFrom : ℕ → List ℕ → List ℕ
-zeroFrom n bytes = take n bytes ++ replicate (length bytes - n) 0
+unfoldable pub zero_from : ℕ → List ℕ → List ℕ
+zero_from n bytes = take n bytes ++ replicate (length bytes - n) 0
 
 -- each number of a list is below a bound: bytes below 256, numbers of 32 bits below 2^32
 abbrev pub Below : ℕ → List ℕ → Type 0

@@ -1,6 +1,6 @@
 // Numbers of 32 bits, and numbers of four bytes, big-endian, in byte areas that the caller lends.
 ghost use Rattle.std.specs.Prelude.{◌≡◌, ◌+◌, ◌*◌, ◌/◌, ◌%◌, ◌<◌, ◌≤◌, ◌++◌, length, take, drop};
-ghost use Rattle.numbers.specs.Number.{plus, minus, number_at, putNumber, numbersOf, bytes_of, zeroFrom};
+ghost use Rattle.numbers.specs.Number.{plus, minus, number_at, put_number, numbers_of, bytes_of, zero_from};
 
 // The sum modulo 2^32.
 pub fn add(a: u32, b: u32) -> u32
@@ -45,7 +45,7 @@ pub fn read_number(bytes: &[u8], at: usize) -> u32
 // Puts a number's four bytes at a position. Swapped, with the lowest byte first, they are one store.
 pub fn write_number(bytes: &mut [u8], at: usize, v: u32)
     requires { at + 4 ≤ length bytes.old }
-    ensures { bytes.new ≡ putNumber bytes.old at v }
+    ensures { bytes.new ≡ put_number bytes.old at v }
 {
     let w = swapped(v);
     bytes[at] = (w % 256) as u8;
@@ -57,7 +57,7 @@ pub fn write_number(bytes: &mut [u8], at: usize, v: u32)
 // Fills a list with the first numbers of an area.
 pub fn read_numbers(bytes: &[u8], list: &mut [u32])
     requires { 4 * length list.old ≤ length bytes.now }
-    ensures { list.new ≡ numbersOf bytes.now (length list.old) }
+    ensures { list.new ≡ numbers_of bytes.now (length list.old) }
 {
     let mut i: usize = 0;
     while i < list.len() {
@@ -81,7 +81,7 @@ pub fn write_numbers(bytes: &mut [u8], at: usize, list: &[u32])
 // Sets the bytes from a position on to 0.
 pub fn clear_from(bytes: &mut [u8], from: usize)
     requires { from ≤ length bytes.old }
-    ensures { bytes.new ≡ zeroFrom from bytes.old }
+    ensures { bytes.new ≡ zero_from from bytes.old }
 {
     let mut i = from;
     while i < bytes.len() {

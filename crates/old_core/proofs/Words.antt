@@ -8,9 +8,9 @@ use Rattle.words.specs.declared.Instruction.{Instruction}
 use Rattle.words.specs.Conditions.{bit_of}
 use Rattle.machine.specs.Ends.{within, live, settle, ending, halt}
 use Rattle.effects.specs.Effect.{effect_of, Machine}
-use Rattle.model.specs.OldCore.{transferOf, follows, executes, old, branches, word_in, fetches, oldNext, straight, trap}
+use Rattle.model.specs.OldCore.{transfer_of, follows, executes, old, branches, word_in, fetches, old_next, straight, trap}
 use Rattle.model.specs.StateBytes.{is_set}
-use Rattle.model.proofs.RoundTrip.{annul-back}
+use Rattle.model.proofs.RoundTrip.{annul_back}
 use denote.Enum.Declared.{tag_of}
 use types.Run.{OneOf, miss}
 use mathlib.Core.List.{List, [], ◌∷◌}
@@ -23,57 +23,57 @@ use Rattle.words.specs.contracts.Instruction.{the_type as instruction}
 abbrev others : List ℕ
 others = 2 ∷ 4 ∷ 6 ∷ 7 ∷ 8 ∷ 9 ∷ 10 ∷ 11 ∷ 12 ∷ []
 
-pub no-transfer : (db : ℕ) (i : Instruction) (m : Machine) (pc npc : ℕ) → OneOf others (tag_of instruction i)
-    → executes db (transferOf i) i m pc npc ≡ within (follows npc) (effect_of db i m)
-unfolding executes transferOf
-no-transfer db Illegal m pc npc k = absurd (miss others 0 tt k)
-no-transfer db (Call disp) m pc npc k = absurd (miss others 1 tt k)
-no-transfer db (Bicc cond annul disp) m pc npc k = absurd (miss others 3 tt k)
-no-transfer db (Jmpl rd rs1 x) m pc npc k = absurd (miss others 5 tt k)
-no-transfer db (Sethi rd imm) m pc npc k = refl
-no-transfer db (Arithmetic o cc rd rs1 x) m pc npc k = refl
-no-transfer db (Ticc cond rs1 x) m pc npc k = either_way (eqb cond 8)
+pub no_transfer : (db : ℕ) (i : Instruction) (m : Machine) (pc npc : ℕ) → OneOf others (tag_of instruction i)
+    → executes db (transfer_of i) i m pc npc ≡ within (follows npc) (effect_of db i m)
+unfolding executes transfer_of
+no_transfer db Illegal m pc npc k = absurd (miss others 0 tt k)
+no_transfer db (Call disp) m pc npc k = absurd (miss others 1 tt k)
+no_transfer db (Bicc cond annul disp) m pc npc k = absurd (miss others 3 tt k)
+no_transfer db (Jmpl rd rs1 x) m pc npc k = absurd (miss others 5 tt k)
+no_transfer db (Sethi rd imm) m pc npc k = refl
+no_transfer db (Arithmetic o cc rd rs1 x) m pc npc k = refl
+no_transfer db (Ticc cond rs1 x) m pc npc k = either_way (eqb cond 8)
   where
     either_way : (b : Bool) → executes db (pick b trap straight) (Ticc cond rs1 x) m pc npc ≡ within (follows npc) (effect_of db (Ticc cond rs1 x) m)
     either_way true = refl
     either_way false = refl
-no-transfer db (Load o rd rs1 x) m pc npc k = refl
-no-transfer db (Store w rd rs1 x) m pc npc k = refl
-no-transfer db (Shift o rd rs1 x) m pc npc k = refl
-no-transfer db (Rdy rd) m pc npc k = refl
-no-transfer db (Wry s) m pc npc k = refl
-no-transfer db (Window o rd rs1 x) m pc npc k = refl
+no_transfer db (Load o rd rs1 x) m pc npc k = refl
+no_transfer db (Store w rd rs1 x) m pc npc k = refl
+no_transfer db (Shift o rd rs1 x) m pc npc k = refl
+no_transfer db (Rdy rd) m pc npc k = refl
+no_transfer db (Wry s) m pc npc k = refl
+no_transfer db (Window o rd rs1 x) m pc npc k = refl
 
 -- annul, as a number and as a test
-pub is-set : (x : ℕ) → (x ≡ 0 → ⊥) → is_set x ≡ true
+pub is_set_lem : (x : ℕ) → (x ≡ 0 → ⊥) → is_set x ≡ true
 unfolding is_set
-is-set x n = rw (ne_eqb x 0 n)
+is_set_lem x n = rw (ne_eqb x 0 n)
 
-pub is-clear : (x : ℕ) → x ≡ 0 → is_set x ≡ false
+pub is_clear : (x : ℕ) → x ≡ 0 → is_set x ≡ false
 unfolding is_set
-is-clear x e = rw e
+is_clear x e = rw e
 
 -- a branch: its condition holds and is 8, holds and is another, fails
 module _ (m : Machine) (npc t : ℕ) (annul holds always : Bool) where
-  pub branch-always : (k : ℕ) → holds ≡ true → always ≡ true → k ≡ bit_of annul → live (old m npc t (is_set k)) ≡ live (branches holds always annul m npc t)
+  pub branch_always : (k : ℕ) → holds ≡ true → always ≡ true → k ≡ bit_of annul → live (old m npc t (is_set k)) ≡ live (branches holds always annul m npc t)
   unfolding branches
-  branch-always k h e b = rw (h, e, b, annul-back annul, and-true annul)
+  branch_always k h e b = rw (h, e, b, annul_back annul, and-true annul)
 
-  pub branch-taken : holds ≡ true → always ≡ false → live (old m npc t (is_set 0)) ≡ live (branches holds always annul m npc t)
+  pub branch_taken : holds ≡ true → always ≡ false → live (old m npc t (is_set 0)) ≡ live (branches holds always annul m npc t)
   unfolding branches is_set
-  branch-taken h e = rw (h, e, and-false annul)
+  branch_taken h e = rw (h, e, and-false annul)
 
-  pub branch-fails : (k n : ℕ) → holds ≡ false → k ≡ bit_of annul → n ≡ plus npc 4 → live (old m npc n (is_set k)) ≡ live (branches holds always annul m npc t)
+  pub branch_fails : (k n : ℕ) → holds ≡ false → k ≡ bit_of annul → n ≡ plus npc 4 → live (old m npc n (is_set k)) ≡ live (branches holds always annul m npc t)
   unfolding branches
-  branch-fails k n h b e = rw (h, b, annul-back annul, e)
+  branch_fails k n h b e = rw (h, b, annul_back annul, e)
 
 -- by annul: the word is passed unread, or it is fetched
 module _ (image : List ℕ) (base db : ℕ) (m : Machine) (pc npc : ℕ) (annul : Bool) where
-  pub annulled : annul ≡ true → live (follows npc m) ≡ settle (old m pc npc annul) (oldNext image base db (old m pc npc annul))
-  unfolding oldNext settle
+  pub annulled : annul ≡ true → live (follows npc m) ≡ settle (old m pc npc annul) (old_next image base db (old m pc npc annul))
+  unfolding old_next settle
   annulled h = rw h
 
-  pub not-annulled : annul ≡ false
-      → oldNext image base db (old m pc npc annul) ≡ pick (eqb (pc % 4) 0) (fetches db (word_in image base pc) m pc npc) (halt (ending 4 pc))
-  unfolding oldNext
-  not-annulled h = rw h
+  pub not_annulled : annul ≡ false
+      → old_next image base db (old m pc npc annul) ≡ pick (eqb (pc % 4) 0) (fetches db (word_in image base pc) m pc npc) (halt (ending 4 pc))
+  unfolding old_next
+  not_annulled h = rw h

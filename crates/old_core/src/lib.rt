@@ -2,13 +2,13 @@
 ghost use Rattle.std.specs.Prelude.{◌≡◌, ℕ, ◌%◌, List, eqb};
 ghost use Rattle.numbers.specs.Choice.{pick};
 ghost use Rattle.words.specs.Conditions.{holds_of};
-ghost use Rattle.machine.specs.Ends.{ending, halt, isGoing, live, left, settle};
+ghost use Rattle.machine.specs.Ends.{ending, halt, is_going, live, left, settle};
 ghost use Rattle.machine.specs.Registers.{address_of};
 ghost use Rattle.effects.specs.Effect.{machine};
 ghost use Rattle.model.specs.Run.{run, zeroed, data_of, beyond, lent};
-ghost use Rattle.model.specs.OldCore.{old, word_in, transferOf, target, follows, branches, jumps, executes, fetches, oldNext, oldBegun};
+ghost use Rattle.model.specs.OldCore.{old, word_in, transfer_of, target, follows, branches, jumps, executes, fetches, old_next, old_begun};
 ghost use Rattle.model.specs.StateBytes.{is_set};
-ghost use Rattle.states.specs.OldState.{old_of, oldState};
+ghost use Rattle.states.specs.OldState.{old_of, old_state};
 
 use effects::effect::{Effect, holds, perform};
 use machine::registers::{File, address, put};
@@ -19,7 +19,7 @@ use words::{Instruction, Operand};
 
 // The run goes on: PC becomes nPC, and nPC the address given.
 fn advance(c: OldControl, f: Flags, next: SourcePc, annul: u32) -> OldControl
-    ensures { (rs a : List ℕ) → oldState rs result a ≡ live (old (machine rs f.nzvc a) c.npc.0 next.0 (is_set annul)) }
+    ensures { (rs a : List ℕ) → old_state rs result a ≡ live (old (machine rs f.nzvc a) c.npc.0 next.0 (is_set annul)) }
 {
     let p = c.npc;
     OldControl {
@@ -33,7 +33,7 @@ fn advance(c: OldControl, f: Flags, next: SourcePc, annul: u32) -> OldControl
 
 // The run goes on with the word after nPC.
 fn follow(c: OldControl, f: Flags) -> OldControl
-    ensures { (rs a : List ℕ) → oldState rs result a ≡ live (follows c.npc.0 (machine rs f.nzvc a)) }
+    ensures { (rs a : List ℕ) → old_state rs result a ≡ live (follows c.npc.0 (machine rs f.nzvc a)) }
 {
     let n = c.npc;
     advance(c, f, further(n, 4), 0)
@@ -41,7 +41,7 @@ fn follow(c: OldControl, f: Flags) -> OldControl
 
 // The run ends, and nothing else changes.
 fn stop(c: OldControl, e: End) -> OldControl
-    ensures { (rs a : List ℕ) → oldState rs result a ≡ left (old_of rs c a) e }
+    ensures { (rs a : List ℕ) → old_state rs result a ≡ left (old_of rs c a) e }
 {
     let f = c.flags;
     let p = c.pc;
@@ -56,7 +56,7 @@ fn stop(c: OldControl, e: End) -> OldControl
 }
 
 fn branch(c: OldControl, cond: u32, annul: bool, disp: u32) -> OldControl
-    ensures { (rs a : List ℕ) → oldState rs result a ≡ live (branches (holds_of cond c.flags.nzvc) (eqb cond 8) annul (machine rs c.flags.nzvc a) c.npc.0 (target c.pc.0 disp)) }
+    ensures { (rs a : List ℕ) → old_state rs result a ≡ live (branches (holds_of cond c.flags.nzvc) (eqb cond 8) annul (machine rs c.flags.nzvc a) c.npc.0 (target c.pc.0 disp)) }
 {
     let f = c.flags;
     let p = c.pc;
@@ -73,7 +73,7 @@ fn branch(c: OldControl, cond: u32, annul: bool, disp: u32) -> OldControl
 
 // The address is taken from the registers before rd is written.
 fn jump(c: OldControl, regs: &mut File, rd: u32, rs1: u32, x: Operand) -> OldControl
-    ensures { (a : List ℕ) → oldState regs.new result a ≡ settle (old_of regs.old c a) (jumps (address_of regs.old rs1 x) rd (machine regs.old c.flags.nzvc a) c.pc.0 c.npc.0) }
+    ensures { (a : List ℕ) → old_state regs.new result a ≡ settle (old_of regs.old c a) (jumps (address_of regs.old rs1 x) rd (machine regs.old c.flags.nzvc a) c.pc.0 c.npc.0) }
 {
     let f = c.flags;
     let p = c.pc;
@@ -87,7 +87,7 @@ fn jump(c: OldControl, regs: &mut File, rd: u32, rs1: u32, x: Operand) -> OldCon
 
 // After a word that does not transfer control: the next word, or the end.
 fn finish(c: OldControl, e: Effect) -> OldControl
-    ensures { (rs a : List ℕ) → oldState rs result a ≡ pick (isGoing e.end) (live (follows c.npc.0 (machine rs e.flags.nzvc a))) (left (old_of rs c a) e.end) }
+    ensures { (rs a : List ℕ) → old_state rs result a ≡ pick (is_going e.end) (live (follows c.npc.0 (machine rs e.flags.nzvc a))) (left (old_of rs c a) e.end) }
 {
     let f = e.flags;
     let g = e.end;
@@ -98,7 +98,7 @@ fn finish(c: OldControl, e: Effect) -> OldControl
 }
 
 fn execute(i: Instruction, db: u32, regs: &mut File, c: OldControl, area: &mut [u8]) -> OldControl
-    ensures { oldState regs.new result area.new ≡ settle (old_of regs.old c area.old) (executes db (transferOf i) i (machine regs.old c.flags.nzvc area.old) c.pc.0 c.npc.0) }
+    ensures { old_state regs.new result area.new ≡ settle (old_of regs.old c area.old) (executes db (transfer_of i) i (machine regs.old c.flags.nzvc area.old) c.pc.0 c.npc.0) }
 {
     let f = c.flags;
     let p = c.pc;
@@ -123,7 +123,7 @@ fn fetch(
     c: OldControl,
     area: &mut [u8],
 ) -> OldControl
-    ensures { oldState regs.new result area.new ≡ settle (old_of regs.old c area.old) (pick (eqb (c.pc.0 % 4) 0) (fetches db (word_in image.now base c.pc.0) (machine regs.old c.flags.nzvc area.old) c.pc.0 c.npc.0) (halt (ending 4 c.pc.0))) }
+    ensures { old_state regs.new result area.new ≡ settle (old_of regs.old c area.old) (pick (eqb (c.pc.0 % 4) 0) (fetches db (word_in image.now base c.pc.0) (machine regs.old c.flags.nzvc area.old) c.pc.0 c.npc.0) (halt (ending 4 c.pc.0))) }
 {
     let p = c.pc;
     if p.0 % 4 == 0 {
@@ -146,7 +146,7 @@ fn pass(
     c: OldControl,
     area: &mut [u8],
 ) -> OldControl
-    ensures { oldState regs.new result area.new ≡ settle (old_of regs.old c area.old) (oldNext image.now base db (old_of regs.old c area.old)) }
+    ensures { old_state regs.new result area.new ≡ settle (old_of regs.old c area.old) (old_next image.now base db (old_of regs.old c area.old)) }
 {
     let f = c.flags;
     if c.annul != 0 {
@@ -165,7 +165,7 @@ fn steps(
     area: &mut [u8],
     count: u16,
 ) -> OldControl
-    ensures { oldState regs.new result area.new ≡ run (oldNext image.now base db) count (oldState regs.old c area.old) }
+    ensures { old_state regs.new result area.new ≡ run (old_next image.now base db) count (old_state regs.old c area.old) }
 {
     let mut s = c;
     let mut i: u16 = 0;
@@ -182,7 +182,7 @@ fn steps(
 
 // PC at the address, nPC 4 further, annul clear, not ended; flags and the lent file stay.
 pub fn begin(regs: &mut File, c: OldControl, pc: SourcePc) -> OldControl
-    ensures { (a : List ℕ) → oldState regs.new result a ≡ oldBegun pc.0 (machine (zeroed regs.old) c.flags.nzvc a) }
+    ensures { (a : List ℕ) → old_state regs.new result a ≡ old_begun pc.0 (machine (zeroed regs.old) c.flags.nzvc a) }
 {
     regs[0] = 0;
     let f = c.flags;
@@ -206,7 +206,7 @@ pub fn run(
     area: &mut [u8],
     count: u16,
 ) -> OldControl
-    ensures { lent (oldState regs.new result (data_of area.new)) (beyond area.new) ≡ lent (run (oldNext image.now base db) count (oldState (zeroed regs.old) c (data_of area.old))) (beyond area.old) }
+    ensures { lent (old_state regs.new result (data_of area.new)) (beyond area.new) ≡ lent (run (old_next image.now base db) count (old_state (zeroed regs.old) c (data_of area.old))) (beyond area.old) }
 {
     regs[0] = 0;
     let n = effects::data_area::data_length(area.len());

@@ -1,10 +1,10 @@
 // The new core for a loader in C: numbers and byte areas, numbers big-endian. Any bytes are a state.
 ghost use Rattle.std.specs.Prelude.{◌≡◌, List, [], ℕ};
-ghost use Rattle.machine.specs.Ends.{ending, endingOf};
+ghost use Rattle.machine.specs.Ends.{ending, ending_of};
 ghost use Rattle.windows.specs.Windows.{laid};
 ghost use Rattle.model.specs.Run.{zeroed};
-ghost use Rattle.states.specs.NewState.{newState};
-ghost use Rattle.model.specs.StateBytes.{newIn, newBytes, after, newBegins, newRuns};
+ghost use Rattle.states.specs.NewState.{new_state};
+ghost use Rattle.model.specs.StateBytes.{new_in, new_bytes, after, new_begins, new_runs};
 
 use machine::registers::{FILE, File};
 use machine::{Ended, Flags, SourcePc, TargetPc};
@@ -12,7 +12,7 @@ use states::{NEW_BEHIND, NEW_STATE, NewControl};
 
 // The state that bytes stand for, its file lent.
 fn decode(state: &[u8; NEW_STATE], regs: &mut File) -> NewControl
-    ensures { (a : List ℕ) → newState (zeroed regs.new) result a ≡ newIn state.now a }
+    ensures { (a : List ℕ) → new_state (zeroed regs.new) result a ≡ new_in state.now a }
 {
     states::file_in(state, NEW_BEHIND, regs);
     let nzvc = numbers::read_number(state, 128) % 16;
@@ -33,7 +33,7 @@ fn decode(state: &[u8; NEW_STATE], regs: &mut File) -> NewControl
 
 // The bytes of a state, the current window among the others, and how it ended.
 fn encode(regs: &mut File, c: NewControl, state: &mut [u8; NEW_STATE]) -> Ended
-    ensures { (ending result.end result.number ≡ endingOf c.end) × (regs.new ≡ laid regs.old) × ((a : List ℕ) → state.new ≡ newBytes (newState regs.old c a)) }
+    ensures { (ending result.end result.number ≡ ending_of c.end) × (regs.new ≡ laid regs.old) × ((a : List ℕ) → state.new ≡ new_bytes (new_state regs.old c a)) }
 {
     let f = c.flags;
     let k = c.at;
@@ -54,7 +54,7 @@ pub extern "C" fn pijorrel_new_begin(
     a: u32,
     state: &mut [u8; NEW_STATE],
 ) -> Ended
-    ensures { after result.end result.number state.new [] ≡ newBegins places.now base size a state.old }
+    ensures { after result.end result.number state.new [] ≡ new_begins places.now base size a state.old }
 {
     let mut regs = [0u32; FILE];
     let c = decode(state, &mut regs);
@@ -74,7 +74,7 @@ pub extern "C" fn pijorrel_new_run(
     area: &mut [u8],
     count: u16,
 ) -> Ended
-    ensures { after result.end result.number state.new area.new ≡ newRuns records.now places.now base size db count state.old area.old }
+    ensures { after result.end result.number state.new area.new ≡ new_runs records.now places.now base size db count state.old area.old }
 {
     let mut regs = [0u32; FILE];
     let c = decode(state, &mut regs);

@@ -1,10 +1,10 @@
 // The old core for a loader in C: numbers and byte areas, numbers big-endian. Any bytes are a state.
 ghost use Rattle.std.specs.Prelude.{◌≡◌, List, ℕ};
-ghost use Rattle.machine.specs.Ends.{ending, endingOf};
+ghost use Rattle.machine.specs.Ends.{ending, ending_of};
 ghost use Rattle.windows.specs.Windows.{laid};
 ghost use Rattle.model.specs.Run.{zeroed};
-ghost use Rattle.states.specs.OldState.{oldState};
-ghost use Rattle.model.specs.StateBytes.{oldIn, oldBytes, after, oldBegins, oldRuns};
+ghost use Rattle.states.specs.OldState.{old_state};
+ghost use Rattle.model.specs.StateBytes.{old_in, old_bytes, after, old_begins, old_runs};
 
 use machine::registers::{FILE, File};
 use machine::{Ended, Flags, SourcePc};
@@ -12,7 +12,7 @@ use states::{OLD_BEHIND, OLD_STATE, OldControl};
 
 // The state that bytes stand for, its file lent.
 fn decode(state: &[u8; OLD_STATE], regs: &mut File) -> OldControl
-    ensures { (a : List ℕ) → oldState (zeroed regs.new) result a ≡ oldIn state.now a }
+    ensures { (a : List ℕ) → old_state (zeroed regs.new) result a ≡ old_in state.now a }
 {
     states::file_in(state, OLD_BEHIND, regs);
     let nzvc = numbers::read_number(state, 128) % 16;
@@ -35,7 +35,7 @@ fn decode(state: &[u8; OLD_STATE], regs: &mut File) -> OldControl
 
 // The bytes of a state, the current window among the others, and how it ended.
 fn encode(regs: &mut File, c: OldControl, state: &mut [u8; OLD_STATE]) -> Ended
-    ensures { (ending result.end result.number ≡ endingOf c.end) × (regs.new ≡ laid regs.old) × ((a : List ℕ) → state.new ≡ oldBytes (oldState regs.old c a)) }
+    ensures { (ending result.end result.number ≡ ending_of c.end) × (regs.new ≡ laid regs.old) × ((a : List ℕ) → state.new ≡ old_bytes (old_state regs.old c a)) }
 {
     let f = c.flags;
     let p = c.pc;
@@ -51,7 +51,7 @@ fn encode(regs: &mut File, c: OldControl, state: &mut [u8; OLD_STATE]) -> Ended
 // Begins at an address: registers, flags, Y, nesting and windows stay.
 #[unsafe(no_mangle)]
 pub extern "C" fn pijorrel_old_begin(pc: u32, state: &mut [u8; OLD_STATE])
-    ensures { state.new ≡ oldBegins pc state.old }
+    ensures { state.new ≡ old_begins pc state.old }
 {
     let mut regs = [0u32; FILE];
     let c = decode(state, &mut regs);
@@ -69,7 +69,7 @@ pub extern "C" fn pijorrel_old_run(
     area: &mut [u8],
     count: u16,
 ) -> Ended
-    ensures { after result.end result.number state.new area.new ≡ oldRuns image.now base db count state.old area.old }
+    ensures { after result.end result.number state.new area.new ≡ old_runs image.now base db count state.old area.old }
 {
     let mut regs = [0u32; FILE];
     let c = decode(state, &mut regs);

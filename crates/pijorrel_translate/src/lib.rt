@@ -1,6 +1,6 @@
 // The translator for a loader in C: numbers and byte areas, numbers big-endian. Any bytes and any lengths get an answer.
 ghost use Rattle.std.specs.Prelude.{◌≡◌, [], ◌∷◌, length};
-ghost use Rattle.model.specs.Translation.{answerNumbers, back, returned, translation};
+ghost use Rattle.model.specs.Translation.{answer_numbers, back, returned, translation};
 
 use model::Answer;
 
@@ -24,7 +24,7 @@ fn refusal(number: u32, first: u64) -> PijorrelAnswer
 }
 
 fn numbers_of(a: Answer) -> PijorrelAnswer
-    ensures { result.number ∷ result.first ∷ result.second ∷ [] ≡ answerNumbers a }
+    ensures { result.number ∷ result.first ∷ result.second ∷ [] ≡ answer_numbers a }
 {
     match a {
         Answer::Accepted(n, m) => PijorrelAnswer {

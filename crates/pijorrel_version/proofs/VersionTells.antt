@@ -2,6 +2,6 @@
 use native.Mathlib.Omega.{arith}
 use Rattle.pijorrel_version.specs.Version.{VersionTells}
 
-pub version-tells : VersionTells
+pub version_tells : VersionTells
 unfolding VersionTells
-version-tells r old new o n e = (omega arith, omega arith, omega arith)
+version_tells r old new o n e = (omega arith, omega arith, omega arith)

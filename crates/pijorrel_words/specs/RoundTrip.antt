@@ -10,23 +10,23 @@ unfoldable pub counted : ℕ → ℕ
 counted n = bit_of (not (eqb n 0))
 
 -- rs1 and a second operand stand in formats 2 and 3, whose forms are 128 and above, but for rdy
-unfoldable pub hasOperand : ℕ → Bool
-hasOperand form = leb 128 form && not (eqb form 168)
+unfoldable pub has_operand : ℕ → Bool
+has_operand form = leb 128 form && not (eqb form 168)
 
 -- Six numbers in normal form: a number that the form does not have is 0. Annul is Bicc's; all but call and wry have rd or a condition; all but
 -- rdy have a constant, a second register or a displacement.
-unfoldable pub normalOf : ℕ → ℕ → ℕ → ℕ → ℕ → ℕ → List ℕ
-normalOf form annul rd rs1 mark v =
+unfoldable pub normal_of : ℕ → ℕ → ℕ → ℕ → ℕ → ℕ → List ℕ
+normal_of form annul rd rs1 mark v =
     form
     ∷ pick (eqb form 2) (counted annul) 0
     ∷ pick (eqb form 64 || eqb form 176) 0 rd
-    ∷ pick (hasOperand form) rs1 0
-    ∷ pick (hasOperand form) (counted mark) 0
+    ∷ pick (has_operand form) rs1 0
+    ∷ pick (has_operand form) (counted mark) 0
     ∷ pick (eqb form 168) 0 v
     ∷ []
 
 unfoldable pub normal : List ℕ → List ℕ
-normal s = bytes_of (normalOf (number_at s 0) (number_at s 4) (number_at s 8) (number_at s 12) (number_at s 16) (number_at s 20))
+normal s = bytes_of (normal_of (number_at s 0) (number_at s 4) (number_at s 8) (number_at s 12) (number_at s 16) (number_at s 20))
 
 -- what was written is read in normal form
 abbrev pub ReadsBack : Type 0

@@ -1,8 +1,8 @@
 // The reader and the writer of words for a planner in C: an instruction is six numbers, 24 bytes, big-endian.
 ghost use Rattle.std.specs.Prelude.{◌≡◌, ◌%◌, [], ◌∷◌};
-ghost use Rattle.words.specs.Reader.{format2Of};
+ghost use Rattle.words.specs.Reader.{format2_of};
 ghost use Rattle.words.specs.Writer.{written_of};
-ghost use Rattle.pijorrel_words.specs.Forms.{withOperand, sixOf, operandFrom, byOp, instructionFrom, answer_of, writes, reads};
+ghost use Rattle.pijorrel_words.specs.Forms.{with_operand, six_of, operand_from, by_op, instruction_from, answer_of, writes, reads};
 
 use words::{Instruction, Operand, Written};
 
@@ -34,7 +34,7 @@ fn low32(i: usize) -> u32
 
 // Any mark but 0 is that of a constant.
 fn operand_from(mark: u32, v: u32) -> Operand
-    ensures { result ≡ operandFrom mark v }
+    ensures { result ≡ operand_from mark v }
 {
     if mark == 0 {
         return Operand::Register(v as usize);
@@ -44,7 +44,7 @@ fn operand_from(mark: u32, v: u32) -> Operand
 
 // The word of a form of format 2. It is put together by its op3: an instruction between would take that apart first.
 fn write2(op3: u32, rd: u32, rs1: u32, x: Operand) -> Written
-    ensures { result ≡ written_of (format2Of op3 rd rd rs1 x) }
+    ensures { result ≡ written_of (format2_of op3 rd rd rs1 x) }
 {
     if flows::is_form2(op3) {
         if op3 == 58 {
@@ -66,7 +66,7 @@ fn write2(op3: u32, rd: u32, rs1: u32, x: Operand) -> Written
 
 // The word of a form of format 2 or 3.
 fn write_by_op(form: u32, rd: u32, rs1: u32, x: Operand) -> Written
-    ensures { result ≡ written_of (byOp form rd rs1 x) }
+    ensures { result ≡ written_of (by_op form rd rs1 x) }
 {
     let k = form / 64;
     if k == 2 {
@@ -82,7 +82,7 @@ fn write_by_op(form: u32, rd: u32, rs1: u32, x: Operand) -> Written
 
 // The word of six numbers.
 fn write_six(form: u32, annul: u32, rd: u32, rs1: u32, mark: u32, v: u32) -> Written
-    ensures { result ≡ written_of (instructionFrom form annul rd rs1 mark v) }
+    ensures { result ≡ written_of (instruction_from form annul rd rs1 mark v) }
 {
     let a = annul != 0;
     match form {
@@ -137,7 +137,7 @@ fn plain_six(form: u32, annul: u32, rd: u32, v: u32) -> Six
 }
 
 fn six_with(form: u32, rd: u32, rs1: u32, x: Operand) -> Six
-    ensures { result.form ∷ result.annul ∷ result.rd ∷ result.rs1 ∷ result.mark ∷ result.value ∷ [] ≡ withOperand form rd rs1 x }
+    ensures { result.form ∷ result.annul ∷ result.rd ∷ result.rs1 ∷ result.mark ∷ result.value ∷ [] ≡ with_operand form rd rs1 x }
 {
     match x {
         Operand::Register(i) => {
@@ -163,7 +163,7 @@ fn six_with(form: u32, rd: u32, rs1: u32, x: Operand) -> Six
 }
 
 fn six_of(i: Instruction) -> Six
-    ensures { result.form ∷ result.annul ∷ result.rd ∷ result.rs1 ∷ result.mark ∷ result.value ∷ [] ≡ sixOf i }
+    ensures { result.form ∷ result.annul ∷ result.rd ∷ result.rs1 ∷ result.mark ∷ result.value ∷ [] ≡ six_of i }
 {
     match i {
         Instruction::Illegal => plain_six(0, 0, 0, 0),

@@ -1,9 +1,9 @@
 -- Laws of the index: what a chain passes over is not the place that is looked for.
 use Rattle.numbers.specs.Number.{up_to}
 use Rattle.numbers.specs.Choice.{pick}
-use Rattle.model.proofs.Members.{same-eq}
+use Rattle.model.proofs.Members.{same_eq}
 use Rattle.model.specs.declared.Place.{Place}
-use Rattle.model.specs.Places.{placeAt, next_of, samePlace, member}
+use Rattle.model.specs.Places.{place_at, next_of, same_place, member}
 use borrow.Author.Tests.{ltb-false, eqb-true, eqb-false}
 use lib.Seq.{get_or-set_same, get_or-set_other}
 use lib.ListN.{length, get_or, set, replicate, length-set, length-replicate, get_or-replicate}
@@ -16,63 +16,63 @@ use mathlib.Core.List.{List, [], ◌∷◌, ◌++◌}
 use mathlib.Core.Bool.{Bool, true, false, false≢true}
 use mathlib.Core.Path.{◌≡◌, refl, sym, ap, ◌∙◌}
 use Prim.Native.Nat.{ℕ, zero, suc, ◌+◌, ◌*◌, ◌-◌, ◌^◌, ◌≤◌, ◌<◌}
-use Rattle.places.specs.Table.{place_of, Shows, place_in, ShowsIn, SameRow, placesIn, putPlace, number_of}
-use Rattle.places.specs.Index.{hashOf, hash, last, Indexed, Ready}
-use Rattle.places.proofs.Rows.{at_place, differ, place_same, shows_same, place-put, shows-put, place-below, row_below, length-row, length-places}
+use Rattle.places.specs.Table.{place_of, Shows, place_in, ShowsIn, SameRow, places_in, put_place, number_of}
+use Rattle.places.specs.Index.{hash_of, hash, last, Indexed, Ready}
+use Rattle.places.proofs.Rows.{at_place, differ, place_same, shows_same, place_put, shows_put, place_below, row_below, length_row, length_places}
 
-other-hash : (x y : Place) → (hash x ≡ hash y → ⊥) → samePlace x y ≡ false
-other-hash x y n = differ x y (λ e. n (ap hash e))
+other_hash : (x y : Place) → (hash x ≡ hash y → ⊥) → same_place x y ≡ false
+other_hash x y n = differ x y (λ e. n (ap hash e))
 
-pub hash-lt : (p n : ℕ) → hashOf p n < 8192
-unfolding hashOf
-hash-lt p n = omega arith
+pub hash_lt : (p n : ℕ) → hash_of p n < 8192
+unfolding hash_of
+hash_lt p n = omega arith
 
-place-lt : (x : Place) → hash x < 8192
+place_lt : (x : Place) → hash x < 8192
 unfolding hash
-place-lt x = hash-lt (placeAt x) (next_of x)
+place_lt x = hash_lt (place_at x) (next_of x)
 
-pub hash-of : (p n k : ℕ) → Shows p n k → hashOf p n ≡ hash (place_of p n k)
+pub hash_of_lem : (p n k : ℕ) → Shows p n k → hash_of p n ≡ hash (place_of p n k)
 unfolding hash
-hash-of p n k s = rw (at_place p n k, s.its-next)
+hash_of_lem p n k s = rw (at_place p n k, s.its_next)
 
 -- a place is in a list exactly if its number is below the list's length
-pub member-number : (x : Place) (ps : List Place) → member ps x ≡ ltb (number_of x ps) (length ps)
+pub member_number : (x : Place) (ps : List Place) → member ps x ≡ ltb (number_of x ps) (length ps)
 unfolding member number_of
-member-number x [] = refl
-member-number x (y ∷ ys) = rw (member-number x ys) (go (samePlace y x))
+member_number x [] = refl
+member_number x (y ∷ ys) = rw (member_number x ys) (go (same_place y x))
   where
     go : (b : Bool) → pick b true (ltb (number_of x ys) (length ys)) ≡ ltb (pick b 0 (suc (number_of x ys))) (suc (length ys))
     go true = sym (leb-suc-suc 0 (length ys) ∙ leb-zero (length ys))
     go false = sym (leb-suc-suc (suc (number_of x ys)) (length ys))
 
-number-le : (x : Place) (ps : List Place) → number_of x ps ≤ length ps
+number_le : (x : Place) (ps : List Place) → number_of x ps ≤ length ps
 unfolding number_of
-number-le x [] = omega arith
-number-le x (y ∷ ys) = go (number-le x ys) (samePlace y x)
+number_le x [] = omega arith
+number_le x (y ∷ ys) = go (number_le x ys) (same_place y x)
   where
     go : number_of x ys ≤ length ys → (b : Bool) → pick b 0 (suc (number_of x ys)) ≤ suc (length ys)
     go h true = omega arith
     go h false = omega arith
 
 -- a list with one place more
-member-snoc : (x y : Place) (ps : List Place) → member (ps ++ (y ∷ [])) x ≡ pick (member ps x) true (samePlace y x)
+member_snoc : (x y : Place) (ps : List Place) → member (ps ++ (y ∷ [])) x ≡ pick (member ps x) true (same_place y x)
 unfolding member
-member-snoc x y [] = go (samePlace y x)
+member_snoc x y [] = go (same_place y x)
   where
     go : (b : Bool) → pick b true false ≡ b
     go true = refl
     go false = refl
-member-snoc x y (z ∷ ps) = rw (member-snoc x y ps) (go (samePlace z x))
+member_snoc x y (z ∷ ps) = rw (member_snoc x y ps) (go (same_place z x))
   where
-    go : (b : Bool) → pick b true (pick (member ps x) true (samePlace y x)) ≡ pick (pick b true (member ps x)) true (samePlace y x)
+    go : (b : Bool) → pick b true (pick (member ps x) true (same_place y x)) ≡ pick (pick b true (member ps x)) true (same_place y x)
     go true = refl
     go false = refl
 
-number-snoc : (x y : Place) (ps : List Place)
-    → number_of x (ps ++ (y ∷ [])) ≡ pick (member ps x) (number_of x ps) (pick (samePlace y x) (length ps) (suc (length ps)))
+number_snoc : (x y : Place) (ps : List Place)
+    → number_of x (ps ++ (y ∷ [])) ≡ pick (member ps x) (number_of x ps) (pick (same_place y x) (length ps) (suc (length ps)))
 unfolding number_of member
-number-snoc x y [] = refl
-number-snoc x y (z ∷ ps) = rw (number-snoc x y ps) (go (samePlace z x) (member ps x) (samePlace y x))
+number_snoc x y [] = refl
+number_snoc x y (z ∷ ps) = rw (number_snoc x y ps) (go (same_place z x) (member ps x) (same_place y x))
   where
     go : (b c d : Bool) → pick b 0 (suc (pick c (number_of x ps) (pick d (length ps) (suc (length ps)))))
         ≡ pick (pick b true c) (pick b 0 (suc (number_of x ps))) (pick d (suc (length ps)) (suc (suc (length ps))))
@@ -83,85 +83,85 @@ number-snoc x y (z ∷ ps) = rw (number-snoc x y ps) (go (samePlace z x) (member
 
 -- the lowest number of a place among the first n, or best where it is none of them
 unfoldable pub low : Place → List ℕ → ℕ → ℕ → ℕ
-low x t n best = pick (member (placesIn t n) x) (number_of x (placesIn t n)) best
+low x t n best = pick (member (places_in t n) x) (number_of x (places_in t n)) best
 
-low-all : (x : Place) (t : List ℕ) (n : ℕ) → number_of x (placesIn t n) ≡ low x t n n
+low_all : (x : Place) (t : List ℕ) (n : ℕ) → number_of x (places_in t n) ≡ low x t n n
 unfolding low
-low-all x t n = rw (member-number x (placesIn t n)) (go (ltb (number_of x (placesIn t n)) (length (placesIn t n))) refl)
+low_all x t n = rw (member_number x (places_in t n)) (go (ltb (number_of x (places_in t n)) (length (places_in t n))) refl)
   where
-    go : (b : Bool) → ltb (number_of x (placesIn t n)) (length (placesIn t n)) ≡ b
-        → number_of x (placesIn t n) ≡ pick b (number_of x (placesIn t n)) n
+    go : (b : Bool) → ltb (number_of x (places_in t n)) (length (places_in t n)) ≡ b
+        → number_of x (places_in t n) ≡ pick b (number_of x (places_in t n)) n
     go true e = refl
     go false e =
-        omega (arith, ltb-false (number_of x (placesIn t n)) (length (placesIn t n)) e, number-le x (placesIn t n), length-places t n)
+        omega (arith, ltb-false (number_of x (places_in t n)) (length (places_in t n)) e, number_le x (places_in t n), length_places t n)
 
-low-none : (x : Place) (t : List ℕ) (best : ℕ) → low x t 0 best ≡ best
-unfolding low placesIn up_to member
-low-none x t best = refl
+low_none : (x : Place) (t : List ℕ) (best : ℕ) → low x t 0 best ≡ best
+unfolding low places_in up_to member
+low_none x t best = refl
 
-low_step : (x : Place) (t : List ℕ) (n best : ℕ) → low x t (suc n) best ≡ low x t n (pick (samePlace (place_in t n) x) n best)
-unfolding low placesIn up_to
+low_step : (x : Place) (t : List ℕ) (n best : ℕ) → low x t (suc n) best ≡ low x t n (pick (same_place (place_in t n) x) n best)
+unfolding low places_in up_to
 low_step x t n best =
-    rw (member-snoc x (place_in t n) (placesIn t n), number-snoc x (place_in t n) (placesIn t n), length-places t n)
-    (go (member (placesIn t n) x) (samePlace (place_in t n) x))
+    rw (member_snoc x (place_in t n) (places_in t n), number_snoc x (place_in t n) (places_in t n), length_places t n)
+    (go (member (places_in t n) x) (same_place (place_in t n) x))
   where
-    go : (c d : Bool) → pick (pick c true d) (pick c (number_of x (placesIn t n)) (pick d n (suc n))) best
-        ≡ pick c (number_of x (placesIn t n)) (pick d n best)
+    go : (c d : Bool) → pick (pick c true d) (pick c (number_of x (places_in t n)) (pick d n (suc n))) best
+        ≡ pick c (number_of x (places_in t n)) (pick d n best)
     go true d = refl
     go false true = refl
     go false false = refl
 
 -- the last place of a hash, and what it passes over
-last-le : (t : List ℕ) (n h : ℕ) → last t n h ≤ n
+last_le : (t : List ℕ) (n h : ℕ) → last t n h ≤ n
 unfolding last
-last-le t zero h = omega arith
-last-le t (suc n) h = go (last-le t n h) (eqb (hash (place_in t n)) h)
+last_le t zero h = omega arith
+last_le t (suc n) h = go (last_le t n h) (eqb (hash (place_in t n)) h)
   where
     go : last t n h ≤ n → (b : Bool) → pick b (suc n) (last t n h) ≤ suc n
     go l true = omega arith
     go l false = omega arith
 
-last-hash : (t : List ℕ) (n h : ℕ) → 0 < last t n h → hash (place_in t (last t n h - 1)) ≡ h
+last_hash : (t : List ℕ) (n h : ℕ) → 0 < last t n h → hash (place_in t (last t n h - 1)) ≡ h
 unfolding last
-last-hash t zero h l = absurd (omega arith)
-last-hash t (suc n) h l = go (last-hash t n h) (eqb (hash (place_in t n)) h) refl l
+last_hash t zero h l = absurd (omega arith)
+last_hash t (suc n) h l = go (last_hash t n h) (eqb (hash (place_in t n)) h) refl l
   where
     go : (0 < last t n h → hash (place_in t (last t n h - 1)) ≡ h) → (b : Bool) → eqb (hash (place_in t n)) h ≡ b
         → 0 < pick b (suc n) (last t n h) → hash (place_in t (pick b (suc n) (last t n h) - 1)) ≡ h
     go r true e l = let k : suc n - 1 ≡ n = omega arith in rw k (eqb-true (hash (place_in t n)) h e)
     go r false e l = r l
 
-last-same : (t m : List ℕ) (n h : ℕ) → ((k : ℕ) → k < n → place_in t k ≡ place_in m k) → last t n h ≡ last m n h
+last_same : (t m : List ℕ) (n h : ℕ) → ((k : ℕ) → k < n → place_in t k ≡ place_in m k) → last t n h ≡ last m n h
 unfolding last
-last-same t m zero h e = refl
-last-same t m (suc n) h e = rw (e n (omega arith), last-same t m n h (λ k l. e k (omega arith)))
+last_same t m zero h e = refl
+last_same t m (suc n) h e = rw (e n (omega arith), last_same t m n h (λ k l. e k (omega arith)))
 
-low-last : (x : Place) (t : List ℕ) (n best : ℕ) → low x t n best ≡ low x t (last t n (hash x)) best
+low_last : (x : Place) (t : List ℕ) (n best : ℕ) → low x t n best ≡ low x t (last t n (hash x)) best
 unfolding last
-low-last x t zero best = refl
-low-last x t (suc n) best = go (low-last x t n best) (eqb (hash (place_in t n)) (hash x)) refl
+low_last x t zero best = refl
+low_last x t (suc n) best = go (low_last x t n best) (eqb (hash (place_in t n)) (hash x)) refl
   where
     go : low x t n best ≡ low x t (last t n (hash x)) best → (b : Bool) → eqb (hash (place_in t n)) (hash x) ≡ b
         → low x t (suc n) best ≡ low x t (pick b (suc n) (last t n (hash x))) best
     go r true e = refl
     go r false e =
-        low_step x t n best ∙ rw (other-hash (place_in t n) x (eqb-false (hash (place_in t n)) (hash x) e)) r
+        low_step x t n best ∙ rw (other_hash (place_in t n) x (eqb-false (hash (place_in t n)) (hash x) e)) r
 
 -- of places that are not x, none is x
-pub not_there : (t : List ℕ) (n : ℕ) (x : Place) → ((k : ℕ) → k < n → samePlace (place_in t k) x ≡ false) → member (placesIn t n) x ≡ false
-unfolding placesIn up_to member
+pub not_there : (t : List ℕ) (n : ℕ) (x : Place) → ((k : ℕ) → k < n → same_place (place_in t k) x ≡ false) → member (places_in t n) x ≡ false
+unfolding places_in up_to member
 not_there t zero x h = refl
 not_there t (suc n) x h =
-    member-snoc x (place_in t n) (placesIn t n) ∙ rw (not_there t n x (λ k l. h k (omega arith)), h n (omega arith))
+    member_snoc x (place_in t n) (places_in t n) ∙ rw (not_there t n x (λ k l. h k (omega arith)), h n (omega arith))
 
-pub none-there : (t : List ℕ) (n : ℕ) (x : Place) → member (placesIn t n) x ≡ false → (k : ℕ) → k < n → samePlace (place_in t k) x ≡ false
-unfolding placesIn up_to
-none-there t zero x e k l = absurd (omega arith)
-none-there t (suc n) x e k l =
-    go (member (placesIn t n) x) (samePlace (place_in t n) x) refl refl (sym (member-snoc x (place_in t n) (placesIn t n)) ∙ e) (none-there t n x)
+pub none_there : (t : List ℕ) (n : ℕ) (x : Place) → member (places_in t n) x ≡ false → (k : ℕ) → k < n → same_place (place_in t k) x ≡ false
+unfolding places_in up_to
+none_there t zero x e k l = absurd (omega arith)
+none_there t (suc n) x e k l =
+    go (member (places_in t n) x) (same_place (place_in t n) x) refl refl (sym (member_snoc x (place_in t n) (places_in t n)) ∙ e) (none_there t n x)
   where
-    go : (c d : Bool) → member (placesIn t n) x ≡ c → samePlace (place_in t n) x ≡ d → pick c true d ≡ false
-        → (member (placesIn t n) x ≡ false → (k : ℕ) → k < n → samePlace (place_in t k) x ≡ false) → samePlace (place_in t k) x ≡ false
+    go : (c d : Bool) → member (places_in t n) x ≡ c → same_place (place_in t n) x ≡ d → pick c true d ≡ false
+        → (member (places_in t n) x ≡ false → (k : ℕ) → k < n → same_place (place_in t k) x ≡ false) → same_place (place_in t k) x ≡ false
     go true d u v w r = absurd (false≢true (sym w))
     go false true u v w r = absurd (false≢true (sym w))
     go false false u v w r =
@@ -170,47 +170,47 @@ none-there t (suc n) x e k l =
 -- following a chain: the place that is sought is none from j on; and place j - 1 has the hash
 abbrev pub Seeking : Place → List ℕ → ℕ → ℕ → Type 0
 Seeking x t count j =
-    (j ≤ count) × (number_of x (placesIn t count) ≡ low x t j count) × (0 < j → hash (place_in t (j - 1)) ≡ hash x)
+    (j ≤ count) × (number_of x (places_in t count) ≡ low x t j count) × (0 < j → hash (place_in t (j - 1)) ≡ hash x)
 
 module _ (x : Place) (t : List ℕ) (count : ℕ) where
-  seeking-from : (n v : ℕ) → n ≤ count → number_of x (placesIn t count) ≡ low x t n count → v ≡ last t n (hash x) → Seeking x t count v
-  seeking-from n v h e ev = rw ev (omega (arith, last-le t n (hash x)), e ∙ low-last x t n count, last-hash t n (hash x))
+  seeking_from : (n v : ℕ) → n ≤ count → number_of x (places_in t count) ≡ low x t n count → v ≡ last t n (hash x) → Seeking x t count v
+  seeking_from n v h e ev = rw ev (omega (arith, last_le t n (hash x)), e ∙ low_last x t n count, last_hash t n (hash x))
 
   -- one place back
   back : (j : ℕ) → Seeking x t count j → 0 < j
-      → number_of x (placesIn t count) ≡ low x t (j - 1) (pick (samePlace (place_in t (j - 1)) x) (j - 1) count)
+      → number_of x (places_in t count) ≡ low x t (j - 1) (pick (same_place (place_in t (j - 1)) x) (j - 1) count)
   back j c l = let k : suc (j - 1) ≡ j = omega arith in c.1 ∙ (rw k at (low_step x t (j - 1) count))
 
   module _ (heads links : List ℕ) (i : Indexed t count heads links) where
-    pub seeking-start : (h : ℕ) → h ≡ hash x → Seeking x t count (get_or heads h 0)
-    seeking-start h e = seeking-from count (get_or heads h 0) (omega arith) (low-all x t count) (rw e (i.head (hash x) (place-lt x)))
+    pub seeking_start : (h : ℕ) → h ≡ hash x → Seeking x t count (get_or heads h 0)
+    seeking_start h e = seeking_from count (get_or heads h 0) (omega arith) (low_all x t count) (rw e (i.head (hash x) (place_lt x)))
 
-    pub seeking-next : (j : ℕ) → Seeking x t count j → 0 < j → samePlace (place_in t (j - 1)) x ≡ false
+    pub seeking_next : (j : ℕ) → Seeking x t count j → 0 < j → same_place (place_in t (j - 1)) x ≡ false
         → Seeking x t count (get_or links (j - 1) 0)
-    seeking-next j c l e =
-        seeking-from (j - 1) (get_or links (j - 1) 0) (omega arith) (rw e at (back j c l)) (i.link (j - 1) (omega arith) ∙ rw (c.2 l) refl)
+    seeking_next j c l e =
+        seeking_from (j - 1) (get_or links (j - 1) 0) (omega arith) (rw e at (back j c l)) (i.link (j - 1) (omega arith) ∙ rw (c.2 l) refl)
 
-    pub seeking-less : (j : ℕ) → Seeking x t count j → 0 < j → get_or links (j - 1) 0 < j
-    seeking-less j c l = rw (i.link (j - 1) (omega arith)) (omega (arith, last-le t (j - 1) (hash (place_in t (j - 1)))))
+    pub seeking_less : (j : ℕ) → Seeking x t count j → 0 < j → get_or links (j - 1) 0 < j
+    seeking_less j c l = rw (i.link (j - 1) (omega arith)) (omega (arith, last_le t (j - 1) (hash (place_in t (j - 1)))))
 
-    pub seeking-hit : (j : ℕ) → Seeking x t count j → 0 < j → samePlace (place_in t (j - 1)) x ≡ true → j - 1 ≡ number_of x (placesIn t count)
+    pub seeking_hit : (j : ℕ) → Seeking x t count j → 0 < j → same_place (place_in t (j - 1)) x ≡ true → j - 1 ≡ number_of x (places_in t count)
     unfolding low
-    seeking-hit j c l e =
-        let q : place_in t (j - 1) ≡ x = same-eq (place_in t (j - 1)) x e in
-        let m : member (placesIn t (j - 1)) x ≡ false =
+    seeking_hit j c l e =
+        let q : place_in t (j - 1) ≡ x = same_eq (place_in t (j - 1)) x e in
+        let m : member (places_in t (j - 1)) x ≡ false =
         not_there t (j - 1) x (λ k b. rw q at (i.apart k (j - 1) b (omega arith))) in
         sym ((rw e at (back j c l)) ∙ rw m)
 
-  pub seeking-end : (j : ℕ) → Seeking x t count j → j ≤ 0 → count ≡ number_of x (placesIn t count)
-  seeking-end j c l = let e : j ≡ 0 = omega arith in sym (c.1 ∙ rw e (low-none x t count))
+  pub seeking_end : (j : ℕ) → Seeking x t count j → j ≤ 0 → count ≡ number_of x (places_in t count)
+  seeking_end j c l = let e : j ≡ 0 = omega arith in sym (c.1 ∙ rw e (low_none x t count))
 
 -- an empty index
-pub index-none : (t : List ℕ) → Indexed t 0 (replicate 8192 0) (replicate 8192 0)
+pub index_none : (t : List ℕ) → Indexed t 0 (replicate 8192 0) (replicate 8192 0)
 unfolding last
-index-none t =
+index_none t =
     record {
-      head-room = length-replicate {A = ℕ} 8192 0;
-      link-room = length-replicate {A = ℕ} 8192 0;
+      head_room = length-replicate {A = ℕ} 8192 0;
+      link_room = length-replicate {A = ℕ} 8192 0;
       head = λ h l. get_or-replicate 8192 h 0 0 l;
       link = λ i l. absurd (omega arith);
       shows = λ i l. absurd (omega arith);
@@ -221,10 +221,10 @@ index-none t =
 pub index_same : (t m heads links : List ℕ) (n : ℕ) → ((i : ℕ) → i < n → SameRow m t i) → Indexed t n heads links → Indexed m n heads links
 index_same t m heads links n s x =
     record {
-      head-room = x.head-room;
-      link-room = x.link-room;
-      head = λ h l. x.head h l ∙ last-same t m n h e;
-      link = λ i l. x.link i l ∙ rw (e i l) (last-same t m i (hash (place_in m i)) (λ k j. e k (omega arith)));
+      head_room = x.head_room;
+      link_room = x.link_room;
+      head = λ h l. x.head h l ∙ last_same t m n h e;
+      link = λ i l. x.link i l ∙ rw (e i l) (last_same t m i (hash (place_in m i)) (λ k j. e k (omega arith)));
       shows = λ i l. shows_same m t i (s i l) (x.shows i l);
       apart = λ i j l k. rw (← e i (omega arith), ← e j k) (x.apart i j l k);
     }
@@ -234,64 +234,64 @@ index_same t m heads links n s x =
 
 -- the index with one place more, which was not there
 module _ (t : List ℕ) (n p q k : ℕ) (heads links : List ℕ) (old : Indexed t n heads links) (room : n < 8192) (h : 16 * n + 16 ≤ length t)
-    (bp : p < 2 ^ 32) (bq : q < 2 ^ 32) (bk : k < 2 ^ 32) (s : Shows p q k) (new : member (placesIn t n) (place_of p q k) ≡ false) where
+    (bp : p < 2 ^ 32) (bq : q < 2 ^ 32) (bk : k < 2 ^ 32) (s : Shows p q k) (new : member (places_in t n) (place_of p q k) ≡ false) where
   abbrev x : Place
   x = place_of p q k
 
   abbrev t+ : List ℕ
-  t+ = putPlace t n p q k
+  t+ = put_place t n p q k
 
   there : place_in t+ n ≡ x
-  there = place-put t n p q k h bp bq bk
+  there = place_put t n p q k h bp bq bk
 
   kept : (i m : ℕ) → i ≤ n → last t+ i m ≡ last t i m
-  kept i m le = last-same t+ t i m (λ j b. place-below t n p q k j (omega arith))
+  kept i m le = last_same t+ t i m (λ j b. place_below t n p q k j (omega arith))
 
-  heads-at : (m : ℕ) → m < 8192 → (c : Bool) → eqb (hash x) m ≡ c → get_or (set heads (hash x) (n + 1)) m 0 ≡ pick c (suc n) (last t n m)
-  heads-at m l true e =
-      rw (← eqb-true (hash x) m e) (get_or-set_same heads (hash x) (n + 1) 0 (omega (arith, place-lt x, old.head-room)) ∙ add-one n)
-  heads-at m l false e = get_or-set_other heads (hash x) m (n + 1) 0 (λ q. eqb-false (hash x) m e (sym q)) ∙ old.head m l
+  heads_at : (m : ℕ) → m < 8192 → (c : Bool) → eqb (hash x) m ≡ c → get_or (set heads (hash x) (n + 1)) m 0 ≡ pick c (suc n) (last t n m)
+  heads_at m l true e =
+      rw (← eqb-true (hash x) m e) (get_or-set_same heads (hash x) (n + 1) 0 (omega (arith, place_lt x, old.head_room)) ∙ add-one n)
+  heads_at m l false e = get_or-set_other heads (hash x) m (n + 1) 0 (λ q. eqb-false (hash x) m e (sym q)) ∙ old.head m l
 
-  links-at : (i : ℕ) → (i ≡ n) ⊎ (i < n) → get_or (set links n (get_or heads (hash x) 0)) i 0 ≡ last t+ i (hash (place_in t+ i))
-  links-at i (inl e) =
-      rw (e, there) (get_or-set_same links n (get_or heads (hash x) 0) 0 (omega (arith, old.link-room)) ∙ old.head (hash x) (place-lt x)
+  links_at : (i : ℕ) → (i ≡ n) ⊎ (i < n) → get_or (set links n (get_or heads (hash x) 0)) i 0 ≡ last t+ i (hash (place_in t+ i))
+  links_at i (inl e) =
+      rw (e, there) (get_or-set_same links n (get_or heads (hash x) 0) 0 (omega (arith, old.link_room)) ∙ old.head (hash x) (place_lt x)
       ∙ sym (kept n (hash x) (omega arith)))
-  links-at i (inr m) =
+  links_at i (inr m) =
       get_or-set_other links n i (get_or heads (hash x) 0) 0 (omega arith) ∙ old.link i m
-      ∙ rw (place-below t n p q k i m) (sym (kept i (hash (place_in t i)) (omega arith)))
+      ∙ rw (place_below t n p q k i m) (sym (kept i (hash (place_in t i)) (omega arith)))
 
-  shows-at : (i : ℕ) → (i ≡ n) ⊎ (i < n) → ShowsIn t+ i
-  shows-at i (inl e) = rw e (shows-put t n p q k h bp bq bk s)
-  shows-at i (inr m) = shows_same t+ t i (row_below t n p q k i m) (old.shows i m)
+  shows_at : (i : ℕ) → (i ≡ n) ⊎ (i < n) → ShowsIn t+ i
+  shows_at i (inl e) = rw e (shows_put t n p q k h bp bq bk s)
+  shows_at i (inr m) = shows_same t+ t i (row_below t n p q k i m) (old.shows i m)
 
-  apart-at : (i j : ℕ) → i < j → (j ≡ n) ⊎ (j < n) → samePlace (place_in t+ i) (place_in t+ j) ≡ false
-  apart-at i j l (inl e) = rw (e, there, place-below t n p q k i (omega arith)) (none-there t n x new i (omega arith))
-  apart-at i j l (inr m) = rw (place-below t n p q k i (omega arith), place-below t n p q k j m) (old.apart i j l m)
+  apart_at : (i j : ℕ) → i < j → (j ≡ n) ⊎ (j < n) → same_place (place_in t+ i) (place_in t+ j) ≡ false
+  apart_at i j l (inl e) = rw (e, there, place_below t n p q k i (omega arith)) (none_there t n x new i (omega arith))
+  apart_at i j l (inr m) = rw (place_below t n p q k i (omega arith), place_below t n p q k j m) (old.apart i j l m)
 
   at_most : (i : ℕ) → i < n + 1 → (i ≡ n) ⊎ (i < n)
   at_most i l = eq-or-lt_of_le (le_of_suc-le-suc (rw add-one at l))
 
-  index-put : Indexed t+ (n + 1) (set heads (hashOf p q) (n + 1)) (set links n (get_or heads (hashOf p q) 0))
+  index_put : Indexed t+ (n + 1) (set heads (hash_of p q) (n + 1)) (set links n (get_or heads (hash_of p q) 0))
   unfolding last
-  index-put =
-      rw (hash-of p q k s)
+  index_put =
+      rw (hash_of_lem p q k s)
       record {
-        head-room = length-set heads (hash x) (n + 1) ∙ old.head-room;
-        link-room = length-set links n (get_or heads (hash x) 0) ∙ old.link-room;
-        head = λ m l. heads-at m l (eqb (hash x) m) refl ∙ sym (rw (add-one n, there, kept n m (omega arith)));
-        link = λ i l. links-at i (at_most i l);
-        shows = λ i l. shows-at i (at_most i l);
-        apart = λ i j l m. apart-at i j l (at_most j m);
+        head_room = length-set heads (hash x) (n + 1) ∙ old.head_room;
+        link_room = length-set links n (get_or heads (hash x) 0) ∙ old.link_room;
+        head = λ m l. heads_at m l (eqb (hash x) m) refl ∙ sym (rw (add-one n, there, kept n m (omega arith)));
+        link = λ i l. links_at i (at_most i l);
+        shows = λ i l. shows_at i (at_most i l);
+        apart = λ i j l m. apart_at i j l (at_most j m);
       }
 
 -- a table ready for more, with one place more
-pub ready-put : {room : ℕ} {t : List ℕ} {n : ℕ} (p q k : ℕ) (heads links : List ℕ) → Ready room t n heads links → n < room → p < 2 ^ 32 → q < 2 ^ 32
-    → k < 2 ^ 32 → Shows p q k → member (placesIn t n) (place_of p q k) ≡ false
-    → Ready room (putPlace t n p q k) (n + 1) (set heads (hashOf p q) (n + 1)) (set links n (get_or heads (hashOf p q) 0))
-ready-put {room} {t} {n} p q k heads links x m bp bq bk s new =
+pub ready_put : {room : ℕ} {t : List ℕ} {n : ℕ} (p q k : ℕ) (heads links : List ℕ) → Ready room t n heads links → n < room → p < 2 ^ 32 → q < 2 ^ 32
+    → k < 2 ^ 32 → Shows p q k → member (places_in t n) (place_of p q k) ≡ false
+    → Ready room (put_place t n p q k) (n + 1) (set heads (hash_of p q) (n + 1)) (set links n (get_or heads (hash_of p q) 0))
+ready_put {room} {t} {n} p q k heads links x m bp bq bk s new =
     record {
       within = omega arith;
-      fits = rw (length-row t n p q k) x.fits;
+      fits = rw (length_row t n p q k) x.fits;
       few = x.few;
-      index = index-put t n p q k heads links x.index (omega arith) (omega arith) bp bq bk s new;
+      index = index_put t n p q k heads links x.index (omega arith) (omega arith) bp bq bk s new;
     }

@@ -12,7 +12,7 @@ unfoldable pub word_of : Fetched → Option ℕ
 word_of (Word w) = some w
 word_of Outside = none
 
--- a transfer with that flow: the rules of places and records do not look at a jmpl's operands, so any will do (`by-flow`)
+-- a transfer with that flow: the rules of places and records do not look at a jmpl's operands, so any will do (`by_flow`)
 unfoldable pub transferred : Flow → Transfer
 transferred Faults = illegal
 transferred Continues = straight

@@ -2,14 +2,14 @@
 use Rattle.std.specs.Prelude.{ℕ, zero, suc, ◌+◌, ◌*◌, ◌/◌, ◌%◌, ◌≤◌, ◌<◌, false, List, ◌≡◌, length, get_or, eqb}
 use Rattle.numbers.specs.Choice.{pick}
 use Rattle.model.specs.declared.Place.{Place}
-use Rattle.model.specs.Places.{placeAt, next_of, samePlace}
+use Rattle.model.specs.Places.{place_at, next_of, same_place}
 use Rattle.places.specs.Table.{place_in, ShowsIn}
 
-unfoldable pub hashOf : ℕ → ℕ → ℕ
-hashOf p n = (p / 4 % 65536 + n / 4 % 65536 * 37) % 8192
+unfoldable pub hash_of : ℕ → ℕ → ℕ
+hash_of p n = (p / 4 % 65536 + n / 4 % 65536 * 37) % 8192
 
 unfoldable pub hash : Place → ℕ
-hash x = hashOf (placeAt x) (next_of x)
+hash x = hash_of (place_at x) (next_of x)
 
 -- one more than the number of the last place with hash h among the first n; 0 where there is none
 unfoldable pub last : List ℕ → ℕ → ℕ → ℕ
@@ -19,12 +19,12 @@ last bytes (suc n) h = pick (eqb (hash (place_in bytes n)) h) (suc n) (last byte
 -- heads leads to the last place of each hash, links from a place to the one before it with the same hash; each row is a place, and no two
 -- are the same
 pub record Indexed (bytes : List ℕ) (n : ℕ) (heads links : List ℕ) : Type 0 where
-  pub head-room : length heads ≡ 8192
-  pub link-room : length links ≡ 8192
+  pub head_room : length heads ≡ 8192
+  pub link_room : length links ≡ 8192
   pub head : (h : ℕ) → h < 8192 → get_or heads h 0 ≡ last bytes n h
   pub link : (i : ℕ) → i < n → get_or links i 0 ≡ last bytes i (hash (place_in bytes i))
   pub shows : (i : ℕ) → i < n → ShowsIn bytes i
-  pub apart : (i j : ℕ) → i < j → j < n → samePlace (place_in bytes i) (place_in bytes j) ≡ false
+  pub apart : (i j : ℕ) → i < j → j < n → same_place (place_in bytes i) (place_in bytes j) ≡ false
 
 -- n places that lie in the bytes and can all be numbered, with the index that fits them
 pub record Tabled (bytes : List ℕ) (n : ℕ) (heads links : List ℕ) : Type 0 where

@@ -1,10 +1,10 @@
 -- The place table's bytes as a list of places.
 use Rattle.std.specs.Prelude.{ℕ, suc, ◌+◌, ◌*◌, List, [], ◌∷◌, ◌≡◌, eqb}
 use Rattle.numbers.specs.Choice.{pick}
-use Rattle.numbers.specs.Number.{number_at, putNumber, up_to}
+use Rattle.numbers.specs.Number.{number_at, put_number, up_to}
 use Rattle.model.specs.declared.Place.{Place}
 use Rattle.model.specs.declared.Place.TheVariants.{Pair, Held}
-use Rattle.model.specs.Places.{next_of, kind_of, samePlace}
+use Rattle.model.specs.Places.{next_of, kind_of, same_place}
 
 -- the place with an address, a next and a kind: kind 2 is held
 unfoldable pub place_of : ℕ → ℕ → ℕ → Place
@@ -12,8 +12,8 @@ place_of p n kind = pick (eqb kind 2) (Held p) (Pair p n)
 
 -- next and kind are those that the place has, so that the three numbers tell it from any other
 pub record Shows (p n kind : ℕ) : Type 0 where
-  pub its-next : next_of (place_of p n kind) ≡ n
-  pub its-kind : kind_of (place_of p n kind) ≡ kind
+  pub its_next : next_of (place_of p n kind) ≡ n
+  pub its_kind : kind_of (place_of p n kind) ≡ kind
 
 -- of row i
 unfoldable pub place_in : List ℕ → ℕ → Place
@@ -29,14 +29,14 @@ SameRow l m i =
     × (number_at l (16 * i + 8) ≡ number_at m (16 * i + 8))
 
 -- the first n places
-unfoldable pub placesIn : List ℕ → ℕ → List Place
-placesIn bytes n = up_to (place_in bytes) n
+unfoldable pub places_in : List ℕ → ℕ → List Place
+places_in bytes n = up_to (place_in bytes) n
 
 -- the table with row i a place
-unfoldable pub putPlace : List ℕ → ℕ → ℕ → ℕ → ℕ → List ℕ
-putPlace bytes i p n kind = putNumber (putNumber (putNumber bytes (16 * i) p) (16 * i + 4) n) (16 * i + 8) kind
+unfoldable pub put_place : List ℕ → ℕ → ℕ → ℕ → ℕ → List ℕ
+put_place bytes i p n kind = put_number (put_number (put_number bytes (16 * i) p) (16 * i + 4) n) (16 * i + 8) kind
 
 -- the lowest number of a place in a list, and the list's length where it is not there
 unfoldable pub number_of : Place → List Place → ℕ
 number_of x [] = 0
-number_of x (y ∷ ys) = pick (samePlace y x) 0 (suc (number_of x ys))
+number_of x (y ∷ ys) = pick (same_place y x) 0 (suc (number_of x ys))

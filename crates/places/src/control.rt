@@ -3,7 +3,7 @@ ghost use Rattle.std.specs.Prelude.{◌≡◌};
 ghost use Rattle.numbers.specs.Choice.{pick};
 ghost use Rattle.numbers.specs.Number.{plus};
 ghost use Rattle.model.specs.OldCore.{word_in};
-ghost use Rattle.model.specs.Places.{unimpBehind, mayBeHeld};
+ghost use Rattle.model.specs.Places.{unimp_behind, may_be_held};
 ghost use Rattle.places.specs.Control.{word_of, transferred};
 
 use machine::{SourcePc, further};
@@ -38,7 +38,7 @@ pub fn untaken(annul: bool, n: SourcePc) -> SourcePc
 
 // Whether an unimp stands behind the delay slot of a call at p: there the callee returns a record, and past the unimp.
 pub fn unimp_behind(image: &[u8], base: u32, p: SourcePc) -> bool
-    ensures { result ≡ unimpBehind image.now base p.0 }
+    ensures { result ≡ unimp_behind image.now base p.0 }
 {
     let f = fetch(image, base, further(p, 8));
     match f {
@@ -49,7 +49,7 @@ pub fn unimp_behind(image: &[u8], base: u32, p: SourcePc) -> bool
 
 // Whether a word may stand held: no call, no jmpl, and of the branches one that is never taken and annuls nothing.
 pub fn may_be_held(f: Flow) -> bool
-    ensures { result ≡ mayBeHeld (transferred f) }
+    ensures { result ≡ may_be_held (transferred f) }
 {
     match f {
         Flow::Faults => true,

@@ -1,13 +1,13 @@
 // The index of a place table: places with one hash form a chain, from the newest to the oldest.
 ghost use Rattle.std.specs.Prelude.{◌≡◌, ◌+◌, ◌<◌, get_or, set};
-ghost use Rattle.places.specs.Table.{place_of, placesIn, number_of, Shows};
-ghost use Rattle.places.specs.Index.{hashOf, Tabled};
+ghost use Rattle.places.specs.Table.{place_of, places_in, number_of, Shows};
+ghost use Rattle.places.specs.Index.{hash_of, Tabled};
 
 use crate::table::is_place;
 use machine::SourcePc;
 
 fn hash(p: SourcePc, n: SourcePc) -> usize
-    ensures { result ≡ hashOf p.0 n.0 }
+    ensures { result ≡ hash_of p.0 n.0 }
 {
     let h = (p.0 / 4 % 65536 + n.0 / 4 % 65536 * 37) % 8192;
     h as usize
@@ -24,7 +24,7 @@ pub fn find(
     kind: u32,
 ) -> usize
     requires { Tabled places.now count heads.now links.now × Shows p.0 n.0 kind }
-    ensures { result ≡ number_of (place_of p.0 n.0 kind) (placesIn places.now count) }
+    ensures { result ≡ number_of (place_of p.0 n.0 kind) (places_in places.now count) }
 {
     let mut j = heads[hash(p, n)] as usize;
     while 0 < j {
@@ -46,7 +46,7 @@ pub fn enter(
     n: SourcePc,
 )
     requires { count < 8192 }
-    ensures { (heads.new ≡ set heads.old (hashOf p.0 n.0) (count + 1)) × (links.new ≡ set links.old count (get_or heads.old (hashOf p.0 n.0) 0)) }
+    ensures { (heads.new ≡ set heads.old (hash_of p.0 n.0) (count + 1)) × (links.new ≡ set links.old count (get_or heads.old (hash_of p.0 n.0) 0)) }
 {
     let h = hash(p, n);
     links[count] = heads[h];

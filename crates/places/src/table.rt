@@ -3,8 +3,8 @@
 ghost use Rattle.std.specs.Prelude.{◌≡◌, ◌+◌, ◌*◌, ◌≤◌, length, eqb};
 ghost use Rattle.numbers.specs.Number.{number_at};
 ghost use Rattle.model.specs.declared.Place.TheVariants.{Pair};
-ghost use Rattle.model.specs.Places.{kind_of, samePlace};
-ghost use Rattle.places.specs.Table.{place_of, place_in, putPlace, Shows, ShowsIn};
+ghost use Rattle.model.specs.Places.{kind_of, same_place};
+ghost use Rattle.places.specs.Table.{place_of, place_in, put_place, Shows, ShowsIn};
 
 use machine::SourcePc;
 
@@ -43,7 +43,7 @@ pub fn is_held(places: &[u8], i: usize) -> bool
 // Makes row i a place. Its first record stays as it is.
 pub fn write_place(places: &mut [u8], i: usize, p: u32, n: u32, kind: u32)
     requires { 16 * i + 16 ≤ length places.old }
-    ensures { places.new ≡ putPlace places.old i p n kind }
+    ensures { places.new ≡ put_place places.old i p n kind }
 {
     numbers::write_number(places, 16 * i, p);
     numbers::write_number(places, 16 * i + 4, n);
@@ -53,7 +53,7 @@ pub fn write_place(places: &mut [u8], i: usize, p: u32, n: u32, kind: u32)
 // Whether row i is a place.
 pub fn is_place(places: &[u8], i: usize, p: u32, n: u32, kind: u32) -> bool
     requires { (16 * i + 16 ≤ length places.now) × Shows p n kind × ShowsIn places.now i }
-    ensures { result ≡ samePlace (place_in places.now i) (place_of p n kind) }
+    ensures { result ≡ same_place (place_in places.now i) (place_of p n kind) }
 {
     if numbers::read_number(places, 16 * i) != p {
         return false;

@@ -9,20 +9,20 @@ use mathlib.Core.List.{List}
 use mathlib.Core.Path.{◌≡◌, sym, ◌∙◌, refl}
 use lib.Dec.{eqb}
 use Prim.Native.Nat.{ℕ, suc, ◌*◌, ◌+◌, ◌-◌, ◌≤◌, ◌<◌}
-use Rattle.model.specs.StateBytes.{After, oldRuns}
-use Rattle.case_files.specs.Files.{number_in, part_of, sameBytes, found, checked}
-use Rattle.run_cases.specs.Trails.{standsAt, Passed, passed, passing, shown, trailed, followed, trailVerdict, Trailed}
+use Rattle.model.specs.StateBytes.{After, old_runs}
+use Rattle.case_files.specs.Files.{number_in, part_of, same_bytes, found, checked}
+use Rattle.run_cases.specs.Trails.{stands_at, Passed, passed, passing, shown, trailed, followed, trail_verdict, Trailed}
 
-bit-of-not : (b : Bool) → bool_byte (not b) ≡ pick b 0 1
-bit-of-not true = refl
-bit-of-not false = refl
+bit_of_not : (b : Bool) → bool_byte (not b) ≡ pick b 0 1
+bit_of_not true = refl
+bit_of_not false = refl
 
 -- an entry passed by two runs
-pub pass-found : (image entry state area : List ℕ) (base db : ℕ) {annul : ℕ} {r : Bool} {a b : After} → annul ≡ number_in state 140
-    → a ≡ oldRuns image base db (bool_byte (not (eqb annul 0))) state area → r ≡ standsAt a.state entry
-    → b ≡ oldRuns image base db 1 a.state a.area → passed r b.state b.area ≡ passing image base db entry state area
+pub pass_found : (image entry state area : List ℕ) (base db : ℕ) {annul : ℕ} {r : Bool} {a b : After} → annul ≡ number_in state 140
+    → a ≡ old_runs image base db (bool_byte (not (eqb annul 0))) state area → r ≡ stands_at a.state entry
+    → b ≡ old_runs image base db 1 a.state a.area → passed r b.state b.area ≡ passing image base db entry state area
 unfolding passing shown
-pass-found image entry state area base db {annul = annul} h i j k = rw (k, j, i, bit-of-not (eqb annul 0), h)
+pass_found image entry state area base db {annul = annul} h i j k = rw (k, j, i, bit_of_not (eqb annul 0), h)
 
 module _ (image entries entry state area : List ℕ) (base db k count : ℕ) (there : entry ≡ part_of entries (k * 140) 140) (more : k < count) where
   -- one entry of those that are left
@@ -32,24 +32,24 @@ module _ (image entries entry state area : List ℕ) (base db k count : ℕ) (th
   follow_one h = let e : count - k ≡ suc (count - suc k) = omega arith in rw (add-one k, e, ← there, ← h)
 
   -- another follows one that agrees
-  pub follow-on : {p : Passed} {t : Trailed} → p ≡ passing image base db entry state area → not p.agrees ≡ false
+  pub follow_on : {p : Passed} {t : Trailed} → p ≡ passing image base db entry state area → not p.agrees ≡ false
       → followed image base db entries (count - k) k state area ≡ t
       → followed image base db entries (count - (k + 1)) (k + 1) p.state p.area ≡ t
-  follow-on {p} h a e = sym (rw (not-false p.agrees a) at (follow_one h)) ∙ e
+  follow_on {p} h a e = sym (rw (not-false p.agrees a) at (follow_one h)) ∙ e
 
   -- one that does not agree is the last
-  pub follow-no : {p : Passed} {t : Trailed} → p ≡ passing image base db entry state area → not p.agrees ≡ true
+  pub follow_no : {p : Passed} {t : Trailed} → p ≡ passing image base db entry state area → not p.agrees ≡ true
       → followed image base db entries (count - k) k state area ≡ t → trailed k p.state p.area ≡ t
-  follow-no {p} h a e = sym (rw (not-true p.agrees a) at (follow_one h)) ∙ e
+  follow_no {p} h a e = sym (rw (not-true p.agrees a) at (follow_one h)) ∙ e
 
 -- none is left
-pub follow-end : (image entries state area : List ℕ) (base db k count : ℕ) {t : Trailed} → k ≤ count → count ≤ k
+pub follow_end : (image entries state area : List ℕ) (base db k count : ℕ) {t : Trailed} → k ≤ count → count ≤ k
     → followed image base db entries (count - k) k state area ≡ t → trailed k state area ≡ t
 unfolding followed
-follow-end image entries state area base db k count h i e = let z : count - k ≡ 0 = omega arith in rw z at e
+follow_end image entries state area base db k count h i e = let z : count - k ≡ 0 = omega arith in rw z at e
 
 -- a trail that is the definition's, compared part by part, has the definition's verdict
-pub trail-found : (next tag count : ℕ) (after : List ℕ) {t b : Trailed} {s : Bool} → t ≡ b → s ≡ sameBytes t.area after
-    → checked (found next t.entries (eqb tag 1414676812 && eqb t.entries count && s)) t.area ≡ trailVerdict next tag count after b
-unfolding trailVerdict
-trail-found next tag count after h i = rw (i, h)
+pub trail_found_lem : (next tag count : ℕ) (after : List ℕ) {t b : Trailed} {s : Bool} → t ≡ b → s ≡ same_bytes t.area after
+    → checked (found next t.entries (eqb tag 1414676812 && eqb t.entries count && s)) t.area ≡ trail_verdict next tag count after b
+unfolding trail_verdict
+trail_found_lem next tag count after h i = rw (i, h)

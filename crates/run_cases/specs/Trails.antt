@@ -1,14 +1,14 @@
 -- What a trail finds: how many of its entries the old core's definition agrees with.
 use Rattle.std.specs.Prelude.{ℕ, zero, suc, ◌+◌, ◌*◌, Bool, ◌&&◌, List, eqb, replicate}
 use Rattle.numbers.specs.Choice.{pick}
-use Rattle.model.specs.StateBytes.{oldBehind, oldSize, After, oldRuns}
-use Rattle.case_files.specs.Files.{number_in, part_of, copied, sameBytes, found, Checked, checked, oldParts}
+use Rattle.model.specs.StateBytes.{old_behind, old_size, After, old_runs}
+use Rattle.case_files.specs.Files.{number_in, part_of, copied, same_bytes, found, Checked, checked, old_parts}
 
 -- whether a state that has not ended is the one that an entry recorded: its address, then its registers and flags, and Y
-unfoldable pub standsAt : List ℕ → List ℕ → Bool
-standsAt state entry =
-    eqb (number_in state 144) 0 && eqb (number_in state 132) (number_in entry 0) && eqb (number_in state oldBehind) (number_in entry 136)
-    && sameBytes (part_of state 0 132) (part_of entry 4 132)
+unfoldable pub stands_at : List ℕ → List ℕ → Bool
+stands_at state entry =
+    eqb (number_in state 144) 0 && eqb (number_in state 132) (number_in entry 0) && eqb (number_in state old_behind) (number_in entry 136)
+    && same_bytes (part_of state 0 132) (part_of entry 4 132)
 
 -- whether an entry agrees, and what the state and the area hold once its word is passed
 pub record Passed : Type 0 where
@@ -31,14 +31,14 @@ trailed entries state area = record { entries = entries; state = state; area = a
 module _ (image : List ℕ) (base db : ℕ) where
   -- the state that an entry shows: an annulled word before it has no entry
   unfoldable pub shown : List ℕ → List ℕ → After
-  shown state area = oldRuns image base db (pick (eqb (number_in state 140) 0) 0 1) state area
+  shown state area = old_runs image base db (pick (eqb (number_in state 140) 0) 0 1) state area
 
   -- that state beside the entry, and the entry's word passed
   unfoldable pub passing : List ℕ → List ℕ → List ℕ → Passed
   passing entry state area =
       let a = shown state area in
-      let b = oldRuns image base db 1 a.state a.area in
-      passed (standsAt a.state entry) b.state b.area
+      let b = old_runs image base db 1 a.state a.area in
+      passed (stands_at a.state entry) b.state b.area
 
   -- from entry k on, with so many left: how many agree before the first that does not
   unfoldable pub followed : List ℕ → ℕ → ℕ → List ℕ → List ℕ → Trailed
@@ -49,16 +49,16 @@ module _ (image : List ℕ) (base db : ℕ) where
       pick a.agrees more (trailed k a.state a.area)
 
 -- the verdict on a trail: the tag is TRAL, so many entries agree, and the area is the known one
-unfoldable pub trailVerdict : ℕ → ℕ → ℕ → List ℕ → Trailed → Checked
-trailVerdict next tag count after t =
-    checked (found next t.entries (eqb tag 0x5452414C && eqb t.entries count && sameBytes t.area after)) t.area
+unfoldable pub trail_verdict : ℕ → ℕ → ℕ → List ℕ → Trailed → Checked
+trail_verdict next tag count after t =
+    checked (found next t.entries (eqb tag 0x5452414C && eqb t.entries count && same_bytes t.area after)) t.area
 
 -- the bases are numbers 2 and 3, the count of entries, of 140 bytes each, is number 5
-unfoldable pub trailFound : List ℕ → ℕ → List ℕ → Checked
-trailFound bytes at area =
+unfoldable pub trail_found : List ℕ → ℕ → List ℕ → Checked
+trail_found bytes at area =
     let count = number_in bytes (at + 20) in
-    let p = oldParts bytes at (count * 140) in
-    trailVerdict p.next (number_in bytes at) count (part_of bytes p.after p.size)
+    let p = old_parts bytes at (count * 140) in
+    trail_verdict p.next (number_in bytes at) count (part_of bytes p.after p.size)
     (followed (part_of bytes p.image p.extent) (number_in bytes (at + 8)) (number_in bytes (at + 12))
-    (part_of bytes p.known (count * 140)) count 0 (copied (replicate oldSize 0) (part_of bytes (at + 24) oldSize))
+    (part_of bytes p.known (count * 140)) count 0 (copied (replicate old_size 0) (part_of bytes (at + 24) old_size))
     (copied area (part_of bytes p.before p.size)))

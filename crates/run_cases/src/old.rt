@@ -2,7 +2,7 @@
 ghost use Rattle.std.specs.Prelude.{◌≡◌, ◌+◌, ◌≤◌, length};
 ghost use Rattle.machine.specs.Ends.{ending};
 ghost use Rattle.case_files.specs.Files.{checked};
-ghost use Rattle.run_cases.specs.Runs.{endedIn, oldFound};
+ghost use Rattle.run_cases.specs.Runs.{ended_in, old_found};
 
 use case_files::{Found, copy, locate, number, one, part};
 use machine::Ended;
@@ -13,7 +13,7 @@ const TAG: u32 = 0x4F4C4443;
 
 // Whether a run ended in the known state.
 fn ended_in(known: &[u8], state: &[u8; OLD_STATE], r: Ended) -> bool
-    ensures { result ≡ endedIn known.now 144 (ending r.end r.number) state.now }
+    ensures { result ≡ ended_in known.now 144 (ending r.end r.number) state.now }
 {
     check::same(state, known) & (r.end == number(known, 144)) & (r.number == number(known, 148))
 }
@@ -21,7 +21,7 @@ fn ended_in(known: &[u8], state: &[u8; OLD_STATE], r: Ended) -> bool
 // Runs the case that starts at a position, in a data area of its size. It has one entry.
 pub fn check(bytes: &[u8], at: usize, area: &mut [u8]) -> Found
     requires { at ≤ length bytes.now + 4 }
-    ensures { checked result area.new ≡ oldFound bytes.now at area.old }
+    ensures { checked result area.new ≡ old_found bytes.now at area.old }
 {
     let p = locate(bytes, at, OLD_STATE);
     let mut state = [0u8; OLD_STATE];

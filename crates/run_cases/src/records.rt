@@ -2,7 +2,7 @@
 ghost use Rattle.std.specs.Prelude.{◌≡◌, ◌+◌, ◌≤◌, length};
 ghost use Rattle.machine.specs.Ends.{ending};
 ghost use Rattle.case_files.specs.Files.{checked};
-ghost use Rattle.run_cases.specs.Runs.{endedIn, newParts, newFound};
+ghost use Rattle.run_cases.specs.Runs.{ended_in, new_parts, new_found};
 
 use case_files::{Found, copy, number, one, padded, part};
 use machine::Ended;
@@ -13,7 +13,7 @@ const TAG: u32 = 0x4E455743;
 
 // Whether a run ended in the known state.
 fn ended_in(known: &[u8], state: &[u8; NEW_STATE], r: Ended) -> bool
-    ensures { result ≡ endedIn known.now 140 (ending r.end r.number) state.now }
+    ensures { result ≡ ended_in known.now 140 (ending r.end r.number) state.now }
 {
     check::same(state, known) & (r.end == number(known, 140)) & (r.number == number(known, 144))
 }
@@ -35,7 +35,7 @@ struct Parts {
 // The parts of the case at a position: eight numbers, a state, a place table, records, data, a state, data.
 fn locate(bytes: &[u8], at: usize) -> Parts
     requires { at ≤ length bytes.now + 4 }
-    ensures { result ≡ newParts bytes.now at }
+    ensures { result ≡ new_parts bytes.now at }
 {
     let rows = number(bytes, at + 4);
     let extent = number(bytes, at + 8);
@@ -61,7 +61,7 @@ fn locate(bytes: &[u8], at: usize) -> Parts
 // Runs the case that starts at a position, in a data area of its size. It has one entry.
 pub fn check(bytes: &[u8], at: usize, area: &mut [u8]) -> Found
     requires { at ≤ length bytes.now + 4 }
-    ensures { checked result area.new ≡ newFound bytes.now at area.old }
+    ensures { checked result area.new ≡ new_found bytes.now at area.old }
 {
     let base = number(bytes, at + 12);
     let length = number(bytes, at + 16);

@@ -1,7 +1,7 @@
 // A trail: a program, and what another emulator of the machine held before each word that it executed.
 ghost use Rattle.std.specs.Prelude.{◌≡◌, ◌+◌, ◌≤◌, length};
 ghost use Rattle.case_files.specs.Files.{checked};
-ghost use Rattle.run_cases.specs.Trails.{standsAt, passed, passing, trailed, followed, trailFound};
+ghost use Rattle.run_cases.specs.Trails.{stands_at, passed, passing, trailed, followed, trail_found};
 
 use case_files::{Found, copy, locate, number, part};
 use states::{OLD_BEHIND, OLD_STATE};
@@ -13,8 +13,8 @@ const TAG: u32 = 0x5452414C;
 const ENTRY: usize = 140;
 
 // Whether a state that has not ended is the one that an entry recorded.
-fn stands_at(state: &[u8], entry: &[u8]) -> bool
-    ensures { result ≡ standsAt state.now entry.now }
+fn stands_at_lem(state: &[u8], entry: &[u8]) -> bool
+    ensures { result ≡ stands_at state.now entry.now }
 {
     (number(state, 144) == 0)
         & (number(state, 132) == number(entry, 0))
@@ -35,7 +35,7 @@ fn pass(
 {
     let annulled = (number(state, 140) != 0) as u16;
     pijorrel_old::pijorrel_old_run(image, base, db, state, area, annulled);
-    let same = stands_at(state, entry);
+    let same = stands_at_lem(state, entry);
     pijorrel_old::pijorrel_old_run(image, base, db, state, area, 1);
     same
 }
@@ -66,7 +66,7 @@ fn follow(
 // Follows the program that starts at a position, in a data area of its size.
 pub fn check(bytes: &[u8], at: usize, area: &mut [u8]) -> Found
     requires { at ≤ length bytes.now + 4 }
-    ensures { checked result area.new ≡ trailFound bytes.now at area.old }
+    ensures { checked result area.new ≡ trail_found bytes.now at area.old }
 {
     let count = number(bytes, at + 20);
     let answers = count as usize * ENTRY;

@@ -2,23 +2,23 @@
 use Rattle.std.specs.Prelude.{List, replicate, ℕ}
 use Rattle.machine.specs.declared.End.TheVariants.{Going}
 use Rattle.machine.specs.Ends.{State, left}
-use Rattle.machine.specs.Registers.{fileSize}
+use Rattle.machine.specs.Registers.{file_size}
 use Rattle.states.specs.declared.NewControl.{NewControl}
 use Rattle.states.specs.declared.NewCore.{NewCore}
 use Rattle.model.specs.NewCore.{New, new}
 
 -- "The start values are all registers 0 and all flags clear." 02, N4: "The state and each trail entry gain Y, 0 among the start values"; N11: "the
 -- start values are 0 throughout"
-unfoldable pub newStartValues : NewCore
-newStartValues =
+unfoldable pub new_start_values : NewCore
+new_start_values =
     record {
-      registers = replicate fileSize 0;
+      registers = replicate file_size 0;
       control = record { flags = record { nzvc = 0 }; at = record { 0 = 0 }; held = record { 0 = 0 }; end = Going };
     }
 
 -- registers, control and data as one state
-abbrev pub newOf : List ℕ → NewControl → List ℕ → New
-newOf rs c a = new (record { registers = rs; flags = c.flags.nzvc; area = a }) c.at.0 c.held.0
+abbrev pub new_of : List ℕ → NewControl → List ℕ → New
+new_of rs c a = new (record { registers = rs; flags = c.flags.nzvc; area = a }) c.at.0 c.held.0
 
-abbrev pub newState : List ℕ → NewControl → List ℕ → State New
-newState rs c a = left (newOf rs c a) c.end
+abbrev pub new_state : List ℕ → NewControl → List ℕ → State New
+new_state rs c a = left (new_of rs c a) c.end

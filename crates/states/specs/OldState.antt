@@ -2,7 +2,7 @@
 use Rattle.std.specs.Prelude.{ℕ, List, replicate}
 use Rattle.machine.specs.declared.End.TheVariants.{Going}
 use Rattle.machine.specs.Ends.{State, left}
-use Rattle.machine.specs.Registers.{fileSize}
+use Rattle.machine.specs.Registers.{file_size}
 use Rattle.states.specs.declared.OldControl.{OldControl}
 use Rattle.states.specs.declared.OldCore.{OldCore}
 use Rattle.model.specs.OldCore.{Old, old}
@@ -10,10 +10,10 @@ use Rattle.model.specs.StateBytes.{is_set}
 
 -- "The start values are all registers 0 and all flags clear." 02, N4: "The state and each trail entry gain Y, 0 among the start values"; N11: "the
 -- start values are 0 throughout"
-unfoldable pub startValues : OldCore
-startValues =
+unfoldable pub start_values : OldCore
+start_values =
     record {
-      registers = replicate fileSize 0;
+      registers = replicate file_size 0;
       control =
           record {
             flags = record { nzvc = 0 };
@@ -28,5 +28,5 @@ startValues =
 abbrev pub old_of : List ℕ → OldControl → List ℕ → Old
 old_of rs c a = old (record { registers = rs; flags = c.flags.nzvc; area = a }) c.pc.0 c.npc.0 (is_set c.annul)
 
-abbrev pub oldState : List ℕ → OldControl → List ℕ → State Old
-oldState rs c a = left (old_of rs c a) c.end
+abbrev pub old_state : List ℕ → OldControl → List ℕ → State Old
+old_state rs c a = left (old_of rs c a) c.end

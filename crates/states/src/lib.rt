@@ -1,11 +1,11 @@
 // The states of the cores: their start values, and their register file in a state's bytes.
 ghost use Rattle.std.specs.Prelude.{◌≡◌, ◌+◌, ◌*◌, ◌-◌, ◌≤◌, ◌++◌, length, take, drop};
 ghost use Rattle.numbers.specs.Number.{bytes_of};
-ghost use Rattle.machine.specs.Registers.{fileSize};
-ghost use Rattle.windows.specs.Windows.{laid, comeIn};
-ghost use Rattle.model.specs.StateBytes.{fileIn};
-ghost use Rattle.states.specs.OldState.{startValues};
-ghost use Rattle.states.specs.NewState.{newStartValues};
+ghost use Rattle.machine.specs.Registers.{file_size};
+ghost use Rattle.windows.specs.Windows.{laid, come_in};
+ghost use Rattle.model.specs.StateBytes.{file_in};
+ghost use Rattle.states.specs.OldState.{start_values};
+ghost use Rattle.states.specs.NewState.{new_start_values};
 
 use machine::registers::{FILE, File};
 use machine::{End, Flags, SourcePc, TargetPc};
@@ -31,7 +31,7 @@ pub struct OldCore {
 impl OldCore {
     // The start values: all registers, Y, nesting and windows 0, all flags clear.
     pub fn new() -> Self
-        ensures { result ≡ startValues }
+        ensures { result ≡ start_values }
     {
         let f = Flags::CLEAR;
         let c = OldControl {
@@ -67,7 +67,7 @@ pub struct NewCore {
 impl NewCore {
     // The start values: all registers, Y, nesting and windows 0, all flags clear.
     pub fn new() -> Self
-        ensures { result ≡ newStartValues }
+        ensures { result ≡ new_start_values }
     {
         let f = Flags::CLEAR;
         let c = NewControl {
@@ -94,8 +94,8 @@ pub const NEW_STATE: usize = 668;
 
 // The file's numbers in a state's bytes: numbers 0 to 31, and behind them those from a position.
 fn read_file(bytes: &[u8], behind: usize, regs: &mut [u32])
-    requires { (128 ≤ behind) × (behind + 4 * (fileSize - 32) ≤ length bytes.now) × (length regs.old ≡ fileSize) }
-    ensures { regs.new ≡ fileIn behind bytes.now }
+    requires { (128 ≤ behind) × (behind + 4 * (file_size - 32) ≤ length bytes.now) × (length regs.old ≡ file_size) }
+    ensures { regs.new ≡ file_in behind bytes.now }
 {
     numbers::read_numbers(bytes, &mut regs[..32]);
     numbers::read_numbers(&bytes[behind..], &mut regs[32..]);
@@ -103,8 +103,8 @@ fn read_file(bytes: &[u8], behind: usize, regs: &mut [u32])
 
 // The file of a state's bytes, as it counts. It is lent, so that nothing copies it.
 pub fn file_in(bytes: &[u8], behind: usize, regs: &mut File)
-    requires { (128 ≤ behind) × (behind + 4 * (fileSize - 32) ≤ length bytes.now) }
-    ensures { regs.new ≡ comeIn (fileIn behind bytes.now) }
+    requires { (128 ≤ behind) × (behind + 4 * (file_size - 32) ≤ length bytes.now) }
+    ensures { regs.new ≡ come_in (file_in behind bytes.now) }
 {
     read_file(bytes, behind, regs);
     windows::come_in(regs);
@@ -112,7 +112,7 @@ pub fn file_in(bytes: &[u8], behind: usize, regs: &mut File)
 
 // Fills a state's bytes: the registers, the flags and a core's own numbers, and what the file has behind the registers.
 fn write_state(bytes: &mut [u8], regs: &[u32], rest: &[u32])
-    requires { (length regs.now ≡ fileSize) × (length bytes.old ≡ 128 + 4 * length rest.now + 4 * (fileSize - 32)) }
+    requires { (length regs.now ≡ file_size) × (length bytes.old ≡ 128 + 4 * length rest.now + 4 * (file_size - 32)) }
     ensures { bytes.new ≡ bytes_of (take 32 regs.now ++ (rest.now ++ drop 32 regs.now)) }
 {
     numbers::write_numbers(bytes, 0, &regs[..32]);
@@ -122,7 +122,7 @@ fn write_state(bytes: &mut [u8], regs: &[u32], rest: &[u32])
 
 // The same of a file in a run, the current window laid among the others.
 pub fn put_state(bytes: &mut [u8], regs: &mut File, rest: &[u32])
-    requires { length bytes.old ≡ 128 + 4 * length rest.now + 4 * (fileSize - 32) }
+    requires { length bytes.old ≡ 128 + 4 * length rest.now + 4 * (file_size - 32) }
     ensures { (regs.new ≡ laid regs.old) × (bytes.new ≡ bytes_of (take 32 (laid regs.old) ++ (rest.now ++ drop 32 (laid regs.old)))) }
 {
     windows::lay_down(regs);

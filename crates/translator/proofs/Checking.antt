@@ -1,7 +1,7 @@
 -- Laws of the checks before the walk: the entries, and the refusals in their order.
 use lib.Dec.{leb, ltb, eqb}
-use Rattle.numbers.proofs.Lists.{length_up, drop-up, drop-all-up}
-use Rattle.numbers.specs.Number.{number_at, numbersOf}
+use Rattle.numbers.proofs.Lists.{length_up, drop_up, drop_all_up}
+use Rattle.numbers.specs.Number.{number_at, numbers_of}
 use borrow.Author.Tests.{eq-eqb, ne_eqb, lt-ltb, le-ltb, leb-true, leb-false, ltb-false}
 use lib.ListN.{length, drop}
 use native.Mathlib.Numerals.{add-one}
@@ -9,9 +9,9 @@ use mathlib.Core.List.{List}
 use mathlib.Core.Bool.{Bool, true, false, false≢true, not, ◌||◌}
 use mathlib.Core.Path.{◌≡◌, refl, sym, ◌∙◌}
 use Prim.Native.Nat.{ℕ, suc, ◌+◌, ◌*◌, ◌/◌, ◌%◌, ◌≤◌, ◌<◌}
-use Rattle.model.specs.Translation.{Handed, badLength, badCount, badEntry, firstBad, placeRoom, refusal, fromWalk, translation}
+use Rattle.model.specs.Translation.{Handed, bad_length, bad_count, bad_entry, first_bad, place_room, refusal, from_walk, translation}
 use Rattle.model.specs.Walk.{Walked, places_of}
-use Rattle.model.specs.Records.{numbersIn}
+use Rattle.model.specs.Records.{numbers_in}
 use Rattle.model.specs.declared.Answer.TheVariants.{ImageLength, Base, Entry}
 
 -- what does not fit lies outside
@@ -24,24 +24,24 @@ outside a b = go (leb a b) refl
 
 -- entry j is bad, or the check goes on; past the last none is
 module _ (base size : ℕ) (l : List ℕ) (k j : ℕ) where
-  pub bad-here : (v : ℕ) {b : Bool} → j < k → v ≡ number_at l (4 * j) → b ≡ badEntry base size v → b ≡ true
-      → suc j ≡ firstBad base size j (drop j (numbersOf l k))
-  unfolding firstBad numbersOf
-  bad-here v h e t y = rw (drop-up (λ i. number_at l (4 * i)) k j h, ← e, ← t, y)
+  pub bad_here : (v : ℕ) {b : Bool} → j < k → v ≡ number_at l (4 * j) → b ≡ bad_entry base size v → b ≡ true
+      → suc j ≡ first_bad base size j (drop j (numbers_of l k))
+  unfolding first_bad numbers_of
+  bad_here v h e t y = rw (drop_up (λ i. number_at l (4 * i)) k j h, ← e, ← t, y)
 
-  pub bad-later : (v : ℕ) {b : Bool} → j < k → v ≡ number_at l (4 * j) → b ≡ badEntry base size v → b ≡ false
-      → firstBad base size (j + 1) (drop (j + 1) (numbersOf l k)) ≡ firstBad base size j (drop j (numbersOf l k))
-  unfolding firstBad numbersOf
-  bad-later v h e t n = rw (add-one j, drop-up (λ i. number_at l (4 * i)) k j h, ← e, ← t, n)
+  pub bad_later : (v : ℕ) {b : Bool} → j < k → v ≡ number_at l (4 * j) → b ≡ bad_entry base size v → b ≡ false
+      → first_bad base size (j + 1) (drop (j + 1) (numbers_of l k)) ≡ first_bad base size j (drop j (numbers_of l k))
+  unfolding first_bad numbers_of
+  bad_later v h e t n = rw (add-one j, drop_up (λ i. number_at l (4 * i)) k j h, ← e, ← t, n)
 
-  pub bad-nowhere : k ≤ j → 0 ≡ firstBad base size j (drop j (numbersOf l k))
-  unfolding firstBad numbersOf
-  bad-nowhere h = rw (drop-all-up (λ i. number_at l (4 * i)) k j h)
+  pub bad_nowhere : k ≤ j → 0 ≡ first_bad base size j (drop j (numbers_of l k))
+  unfolding first_bad numbers_of
+  bad_nowhere h = rw (drop_all_up (λ i. number_at l (4 * i)) k j h)
 
 -- a count that is not bad
-pub good-count : (k : ℕ) {b : Bool} → b ≡ badCount k → b ≡ false → k ≤ 64
-unfolding badCount
-good-count k e f = go (eqb k 0) (ltb 64 k) refl (sym e ∙ f)
+pub good_count : (k : ℕ) {b : Bool} → b ≡ bad_count k → b ≡ false → k ≤ 64
+unfolding bad_count
+good_count k e f = go (eqb k 0) (ltb 64 k) refl (sym e ∙ f)
   where
     go : (a b : Bool) → ltb 64 k ≡ b → a || b ≡ false → k ≤ 64
     go true b h n = absurd (false≢true (sym n))
@@ -53,37 +53,37 @@ module _ (image : List ℕ) (base : ℕ) (entries : List ℕ) (pl rl : ℕ) wher
   abbrev answer : Handed
   answer = translation image base entries pl rl
 
-  pub tr-length : {b : Bool} → b ≡ badLength (length image) → b ≡ true → refusal pl rl (ImageLength (length image)) ≡ answer
+  pub tr_length : {b : Bool} → b ≡ bad_length (length image) → b ≡ true → refusal pl rl (ImageLength (length image)) ≡ answer
   unfolding translation
-  tr-length e t = rw (← e, t)
+  tr_length e t = rw (← e, t)
 
-  module _ {b : Bool} (e : b ≡ badLength (length image)) (f : b ≡ false) where
-    good_length : badLength (length image) ≡ false
+  module _ {b : Bool} (e : b ≡ bad_length (length image)) (f : b ≡ false) where
+    good_length : bad_length (length image) ≡ false
     good_length = sym e ∙ f
 
-    pub tr-base : (base % 4 ≡ 0 → ⊥) → refusal pl rl (Base base) ≡ answer
+    pub tr_base : (base % 4 ≡ 0 → ⊥) → refusal pl rl (Base base) ≡ answer
     unfolding translation
-    tr-base n = rw (good_length, ne_eqb (base % 4) 0 n)
+    tr_base n = rw (good_length, ne_eqb (base % 4) 0 n)
 
-    module _ (a : base % 4 ≡ 0) {c : Bool} (g : c ≡ badCount (length entries / 4)) where
-      count-is : (d : Bool) → c ≡ d → badCount (length (numbersIn entries)) ≡ d
-      unfolding numbersIn numbersOf
+    module _ (a : base % 4 ≡ 0) {c : Bool} (g : c ≡ bad_count (length entries / 4)) where
+      count-is : (d : Bool) → c ≡ d → bad_count (length (numbers_in entries)) ≡ d
+      unfolding numbers_in numbers_of
       count-is d h = rw (length_up (λ i. number_at entries (4 * i)) (length entries / 4), ← g) h
 
       pub tr-count : c ≡ true → refusal pl rl (Entry 0) ≡ answer
       unfolding translation
       tr-count t = rw (good_length, eq-eqb (base % 4) 0 a, count-is true t)
 
-      module _ (h : c ≡ false) {p : ℕ} (q : p ≡ firstBad base (length image) 0 (numbersOf entries (length entries / 4))) where
-        position-is : firstBad base (length image) 0 (numbersIn entries) ≡ p
-        unfolding numbersIn
+      module _ (h : c ≡ false) {p : ℕ} (q : p ≡ first_bad base (length image) 0 (numbers_of entries (length entries / 4))) where
+        position-is : first_bad base (length image) 0 (numbers_in entries) ≡ p
+        unfolding numbers_in
         position-is = sym q
 
         pub tr-entry : (p ≡ 0 → ⊥) → refusal pl rl (Entry p) ≡ answer
         unfolding translation
         tr-entry n = rw (good_length, eq-eqb (base % 4) 0 a, count-is false h, position-is, ne_eqb p 0 n)
 
-        pub tr-walk : {room : ℕ} (w : Walked) → p ≡ 0 → room ≡ placeRoom pl → w ≡ places_of image base room (numbersOf entries (length entries / 4))
-            → fromWalk image base pl rl w ≡ answer
-        unfolding translation numbersIn
+        pub tr-walk : {room : ℕ} (w : Walked) → p ≡ 0 → room ≡ place_room pl → w ≡ places_of image base room (numbers_of entries (length entries / 4))
+            → from_walk image base pl rl w ≡ answer
+        unfolding translation numbers_in
         tr-walk w z er ew = rw (good_length, eq-eqb (base % 4) 0 a, count-is false h, position-is, z, ← er, ← ew)

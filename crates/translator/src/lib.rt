@@ -1,11 +1,11 @@
 // The translator: from an image and its entries, the place table and the records, or a refusal.
 ghost use Rattle.std.specs.Prelude.{◌≡◌, ◌*◌, ◌≤◌, length};
-ghost use Rattle.numbers.specs.Number.{numbersOf};
-ghost use Rattle.model.specs.Translation.{badLength, badCount, badEntry, firstBad, placeRoom, fromWalk, translation};
+ghost use Rattle.numbers.specs.Number.{numbers_of};
+ghost use Rattle.model.specs.Translation.{bad_length, bad_count, bad_entry, first_bad, place_room, from_walk, translation};
 ghost use Rattle.model.specs.Walk.{table};
-ghost use Rattle.places.specs.Table.{placesIn};
+ghost use Rattle.places.specs.Table.{places_in};
 ghost use Rattle.places.specs.Index.{Tabled};
-ghost use Rattle.translator.specs.Handing.{placesCounted, recordsCounted, handed, cleared};
+ghost use Rattle.translator.specs.Handing.{places_counted, records_counted, handed, cleared};
 
 use model::Answer;
 use walks::walk::find_places;
@@ -13,7 +13,7 @@ use walks::worklist::Found;
 
 // Refusal 1.
 fn bad_length(n: usize) -> bool
-    ensures { result ≡ badLength n }
+    ensures { result ≡ bad_length n }
 {
     if n == 0 {
         return true;
@@ -26,7 +26,7 @@ fn bad_length(n: usize) -> bool
 
 // Refusal 3 for the count.
 fn bad_count(k: usize) -> bool
-    ensures { result ≡ badCount k }
+    ensures { result ≡ bad_count k }
 {
     if k == 0 {
         return true;
@@ -35,7 +35,7 @@ fn bad_count(k: usize) -> bool
 }
 
 fn bad_entry(base: u32, size: usize, e: u32) -> bool
-    ensures { result ≡ badEntry base size e }
+    ensures { result ≡ bad_entry base size e }
 {
     if e % 4 != 0 {
         return true;
@@ -47,7 +47,7 @@ fn bad_entry(base: u32, size: usize, e: u32) -> bool
 // The position of the first bad entry of k, counted from 1; 0 if none is bad.
 fn bad_position(entries: &[u8], k: usize, base: u32, size: usize) -> u32
     requires { (4 * k ≤ length entries.now) × (k ≤ 64) }
-    ensures { result ≡ firstBad base size 0 (numbersOf entries.now k) }
+    ensures { result ≡ first_bad base size 0 (numbers_of entries.now k) }
 {
     let mut j: usize = 0;
     while j < k {
@@ -61,7 +61,7 @@ fn bad_position(entries: &[u8], k: usize, base: u32, size: usize) -> u32
 
 // How many places a table of so many bytes has room for.
 fn place_room(bytes: usize) -> usize
-    ensures { result ≡ placeRoom bytes }
+    ensures { result ≡ place_room bytes }
 {
     if bytes / 16 < 8192 {
         return bytes / 16;
@@ -80,7 +80,7 @@ fn finish(
     records: &mut [u8],
 ) -> Answer
     requires { Tabled places.old count heads.now links.now }
-    ensures { cleared result places.new records.new ≡ fromWalk image.now base (length places.old) (length records.old) (table (placesIn places.old count)) }
+    ensures { cleared result places.new records.new ≡ from_walk image.now base (length places.old) (length records.old) (table (places_in places.old count)) }
 {
     let total = groups::layout::lay_out(image, base, places, count);
     if records.len() / 12 < total {
@@ -124,7 +124,7 @@ fn attempt(image: &[u8], base: u32, entries: &[u8], places: &mut [u8], records: 
 
 // The places that an answer counts: a refusal counts none.
 fn places_counted(a: Answer) -> usize
-    ensures { result ≡ placesCounted a }
+    ensures { result ≡ places_counted a }
 {
     match a {
         Answer::Accepted(n, m) => n as usize,
@@ -133,7 +133,7 @@ fn places_counted(a: Answer) -> usize
 }
 
 fn records_counted(a: Answer) -> usize
-    ensures { result ≡ recordsCounted a }
+    ensures { result ≡ records_counted a }
 {
     match a {
         Answer::Accepted(n, m) => m as usize,

@@ -6,11 +6,11 @@ use Rattle.model.specs.Places.{allowed}
 use Rattle.model.specs.Walk.{Walked, table, refused, tested}
 use Rattle.walks.specs.declared.worklist.Found.{Found}
 use Rattle.walks.specs.declared.worklist.Found.TheVariants.{Places, Forbidden, NoRoom}
-use Rattle.places.specs.Table.{placesIn}
+use Rattle.places.specs.Table.{places_in}
 use Rattle.places.specs.Index.{Ready}
 
 unfoldable pub seen : Found → List ℕ → Walked
-seen (Places n) bytes = table (placesIn bytes n)
+seen (Places n) bytes = table (places_in bytes n)
 seen (Forbidden a) bytes = refused 4 a
 seen (NoRoom a) bytes = refused 5 a
 

@@ -1,12 +1,12 @@
 // The walk: places are handled in number order, and each adds those of its followers that are not yet present.
 ghost use Rattle.std.specs.Prelude.{◌≡◌, ◌+◌, ◌*◌, ◌≤◌, ◌<◌, suc, [], length};
 ghost use Rattle.numbers.specs.Choice.{pick};
-ghost use Rattle.numbers.specs.Number.{numbersOf};
-ghost use Rattle.model.specs.Places.{mayBeHeld, plains};
+ghost use Rattle.numbers.specs.Number.{numbers_of};
+ghost use Rattle.model.specs.Places.{may_be_held, plains};
 ghost use Rattle.model.specs.Walk.{grow, walk, places_of};
 ghost use Rattle.walks.specs.declared.worklist.Found.TheVariants.{Places, Forbidden};
 ghost use Rattle.places.specs.Control.{transferred};
-ghost use Rattle.places.specs.Table.{place_in, placesIn};
+ghost use Rattle.places.specs.Table.{place_in, places_in};
 ghost use Rattle.places.specs.Index.{Ready};
 ghost use Rattle.walks.specs.Walk.{Known};
 ghost use Rattle.walks.specs.Walk.{handled};
@@ -19,7 +19,7 @@ use words::Flow;
 
 // Handles a held place: it has no followers, but its word is tested.
 fn handle_held(count: usize, f: Flow, p: SourcePc) -> Found
-    ensures { result ≡ pick (mayBeHeld (transferred f)) (Places count) (Forbidden p.0) }
+    ensures { result ≡ pick (may_be_held (transferred f)) (Places count) (Forbidden p.0) }
 {
     if may_be_held(f) {
         return Found::Places(count);
@@ -39,7 +39,7 @@ fn handle(
     at: usize,
 ) -> Found
     requires { (at < count) × Ready room places.old count heads.old links.old }
-    ensures { Known room (handled image.now base room (placesIn places.old count) (place_in places.old at)) result places.new heads.new links.new }
+    ensures { Known room (handled image.now base room (places_in places.old count) (place_in places.old at)) result places.new heads.new links.new }
 {
     let p = address(places, at);
     let f = fetch(image, base, p);
@@ -67,7 +67,7 @@ fn walk(
     room: usize,
 ) -> Found
     requires { Ready room places.old count heads.old links.old }
-    ensures { Known room (walk image.now base (suc room) room 0 (placesIn places.old count)) result places.new heads.new links.new }
+    ensures { Known room (walk image.now base (suc room) room 0 (places_in places.old count)) result places.new heads.new links.new }
 {
     let mut n = count;
     let mut i: usize = 0;
@@ -99,7 +99,7 @@ fn start(
     room: usize,
 ) -> Found
     requires { (4 * k ≤ length entries.now) × Ready room places.old 0 heads.old links.old }
-    ensures { Known room (grow room [] (plains (numbersOf entries.now k))) result places.new heads.new links.new }
+    ensures { Known room (grow room [] (plains (numbers_of entries.now k))) result places.new heads.new links.new }
 {
     let mut n: usize = 0;
     let mut j: usize = 0;
@@ -134,7 +134,7 @@ pub fn find_places(
     room: usize,
 ) -> Found
     requires { (4 * k ≤ length entries.now) × Ready room places.old 0 heads.old links.old }
-    ensures { Known room (places_of image.now base room (numbersOf entries.now k)) result places.new heads.new links.new }
+    ensures { Known room (places_of image.now base room (numbers_of entries.now k)) result places.new heads.new links.new }
 {
     let w = start(entries, k, places, heads, links, room);
     match w {

@@ -4,10 +4,10 @@ ghost use Rattle.words.specs.declared.Flow.TheVariants.{Jumps};
 ghost use Rattle.model.specs.declared.Place.TheVariants.{Pair, Held};
 ghost use Rattle.numbers.specs.Choice.{pick};
 ghost use Rattle.numbers.specs.Number.{plus};
-ghost use Rattle.model.specs.Places.{plain, whichOf, biccNames, unimpBehind, names};
+ghost use Rattle.model.specs.Places.{plain, which_of, bicc_names, unimp_behind, names};
 ghost use Rattle.model.specs.Walk.{grow, grown};
 ghost use Rattle.places.specs.Control.{transferred};
-ghost use Rattle.places.specs.Table.{place_of, placesIn, Shows};
+ghost use Rattle.places.specs.Table.{place_of, places_in, Shows};
 ghost use Rattle.places.specs.Index.{Ready};
 ghost use Rattle.walks.specs.Walk.{ReadyBy, Known};
 ghost use Rattle.walks.specs.Walk.{seen, counted};
@@ -39,7 +39,7 @@ fn add(
     kind: u32,
 ) -> usize
     requires { Ready room places.old count heads.old links.old × Shows p.0 n.0 kind }
-    ensures { Known room (grow room (placesIn places.old count) (place_of p.0 n.0 kind ∷ [])) (counted room p.0 result) places.new heads.new links.new }
+    ensures { Known room (grow room (places_in places.old count) (place_of p.0 n.0 kind ∷ [])) (counted room p.0 result) places.new heads.new links.new }
 {
     if find(places, heads, links, count, p, n, kind) < count {
         return count;
@@ -70,7 +70,7 @@ pub fn add_plain(
     p: SourcePc,
 ) -> Found
     requires { Ready room places.old count heads.old links.old }
-    ensures { Known room (grow room (placesIn places.old count) (plain p.0 ∷ [])) result places.new heads.new links.new }
+    ensures { Known room (grow room (places_in places.old count) (plain p.0 ∷ [])) result places.new heads.new links.new }
 {
     let m = add(places, heads, links, count, room, p, further(p, 4), 0);
     counted(room, p.0, m)
@@ -86,7 +86,7 @@ fn add_pair(
     n: SourcePc,
 ) -> Found
     requires { Ready room places.old count heads.old links.old }
-    ensures { Known room (grow room (placesIn places.old count) (Pair p.0 n.0 ∷ [])) result places.new heads.new links.new }
+    ensures { Known room (grow room (places_in places.old count) (Pair p.0 n.0 ∷ [])) result places.new heads.new links.new }
 {
     let m = add(places, heads, links, count, room, p, n, pair_kind(p, n));
     counted(room, p.0, m)
@@ -101,7 +101,7 @@ fn add_held(
     p: SourcePc,
 ) -> Found
     requires { Ready room places.old count heads.old links.old }
-    ensures { Known room (grow room (placesIn places.old count) (Held p.0 ∷ [])) result places.new heads.new links.new }
+    ensures { Known room (grow room (places_in places.old count) (Held p.0 ∷ [])) result places.new heads.new links.new }
 {
     let m = add(places, heads, links, count, room, p, SourcePc(0), 2);
     counted(room, p.0, m)
@@ -154,7 +154,7 @@ fn add_branch(
     n: SourcePc,
 ) -> Found
     requires { Ready room places.old count heads.old links.old }
-    ensures { Known room (grow room (placesIn places.old count) (biccNames (whichOf cond) annul t.0 n.0)) result places.new heads.new links.new }
+    ensures { Known room (grow room (places_in places.old count) (bicc_names (which_of cond) annul t.0 n.0)) result places.new heads.new links.new }
 {
     if cond == 0 {
         return add_plain(places, heads, links, count, room, untaken(annul, n));
@@ -181,7 +181,7 @@ fn then_past(
     p: SourcePc,
 ) -> Found
     requires { ReadyBy room w places.old heads.old links.old }
-    ensures { Known room (grown (λ ps. grow room ps (pick (unimpBehind image.now base p.0) (plain (plus p.0 12) ∷ []) [])) (seen w places.old)) result places.new heads.new links.new }
+    ensures { Known room (grown (λ ps. grow room ps (pick (unimp_behind image.now base p.0) (plain (plus p.0 12) ∷ []) [])) (seen w places.old)) result places.new heads.new links.new }
 {
     match w {
         Found::Places(count) => {
@@ -209,7 +209,7 @@ fn add_jump(
     n: SourcePc,
 ) -> Found
     requires { Ready room places.old count heads.old links.old }
-    ensures { Known room (grow room (placesIn places.old count) (names (transferred (Jumps rd)) (unimpBehind image.now base p.0) p.0 n.0)) result places.new heads.new links.new }
+    ensures { Known room (grow room (places_in places.old count) (names (transferred (Jumps rd)) (unimp_behind image.now base p.0) p.0 n.0)) result places.new heads.new links.new }
 {
     let w = add_held(places, heads, links, count, room, n);
     if rd == 0 {
@@ -233,7 +233,7 @@ pub fn add_names(
     n: SourcePc,
 ) -> Found
     requires { Ready room places.old count heads.old links.old }
-    ensures { Known room (grow room (placesIn places.old count) (names (transferred f) (unimpBehind image.now base p.0) p.0 n.0)) result places.new heads.new links.new }
+    ensures { Known room (grow room (places_in places.old count) (names (transferred f) (unimp_behind image.now base p.0) p.0 n.0)) result places.new heads.new links.new }
 {
     match f {
         Flow::Faults => Found::Places(count),

@@ -19,52 +19,52 @@ use Rattle.numbers.specs.Choice.{pick}
 use Rattle.words.specs.declared.WindowOperation.{WindowOperation}
 use Rattle.words.specs.declared.WindowOperation.TheVariants.{Save, Restore}
 use Rattle.machine.specs.Ends.{ending, Next, go, halt}
-use Rattle.machine.specs.Registers.{fileSize, putRegister}
+use Rattle.machine.specs.Registers.{file_size, put_register}
 
-unfoldable pub nestingOf : List ℕ → ℕ
-nestingOf rs = get_or rs 33 0
+unfoldable pub nesting_of : List ℕ → ℕ
+nesting_of rs = get_or rs 33 0
 
 -- the one place of register r of window w: a global's own, or, in the ring, with the ins of w, its locals or the ins of the next window
 unfoldable pub place_of : ℕ → ℕ → ℕ
 place_of w r = pick (ltb r 8) r (34 + (16 * w + 8 * (3 - r / 8) + r % 8) % 128)
 
 -- a file with so many numbers written, each at its position
-unfoldable pub putEach : (ℕ → ℕ) → (ℕ → ℕ) → ℕ → List ℕ → List ℕ
-putEach at v zero rs = rs
-putEach at v (suc k) rs = set (putEach at v k rs) (at k) (v k)
+unfoldable pub put_each : (ℕ → ℕ) → (ℕ → ℕ) → ℕ → List ℕ → List ℕ
+put_each at v zero rs = rs
+put_each at v (suc k) rs = set (put_each at v k rs) (at k) (v k)
 
 -- where register 8 + k of window w stands
-abbrev pub ringPlace : ℕ → ℕ → ℕ
-ringPlace w k = place_of w (8 + k)
+abbrev pub ring_place : ℕ → ℕ → ℕ
+ring_place w k = place_of w (8 + k)
 
 -- The current window lies in registers 8 to 31, and its 24 places are 0 meanwhile. What is shown has it at its places too.
 unfoldable pub laid : List ℕ → List ℕ
-laid rs = putEach (ringPlace (nestingOf rs)) (λ k. get_or rs (8 + k) 0) 24 rs
+laid rs = put_each (ring_place (nesting_of rs)) (λ k. get_or rs (8 + k) 0) 24 rs
 
 -- a window's numbers as registers 8 to 31
 unfoldable pub taken : ℕ → List ℕ → List ℕ
-taken w rs = putEach (λ k. 8 + k) (λ k. get_or rs (ringPlace w k) 0) 24 rs
+taken w rs = put_each (λ k. 8 + k) (λ k. get_or rs (ring_place w k) 0) 24 rs
 
 -- a window's places as 0, whatever they were
 unfoldable pub cleared : ℕ → List ℕ → List ℕ
-cleared w rs = putEach (ringPlace w) (λ k. 0) 24 rs
+cleared w rs = put_each (ring_place w) (λ k. 0) 24 rs
 
 abbrev pub Clear : List ℕ → Type 0
-Clear rs = (k : ℕ) → k < 24 → get_or rs (ringPlace (nestingOf rs) k) 0 ≡ 0
+Clear rs = (k : ℕ) → k < 24 → get_or rs (ring_place (nesting_of rs) k) 0 ≡ 0
 
 -- a file as every state of a run has it
 pub record Held (rs : List ℕ) : Type 0 where
-  pub whole : length rs ≡ fileSize
+  pub whole : length rs ≡ file_size
   pub zero : get_or rs 0 0 ≡ 0
   pub clear : Clear rs
-  pub nesting : nestingOf rs ≤ 6
+  pub nesting : nesting_of rs ≤ 6
 
 -- what comes in: "a nesting handed in above 6 counts as 6", and what repeats the current window is not looked at
 unfoldable pub nested : List ℕ → List ℕ
-nested rs = set rs 33 (min (nestingOf rs) 6)
+nested rs = set rs 33 (min (nesting_of rs) 6)
 
-unfoldable pub comeIn : List ℕ → List ℕ
-comeIn rs = cleared (min (nestingOf rs) 6) (nested rs)
+unfoldable pub come_in : List ℕ → List ℕ
+come_in rs = cleared (min (nesting_of rs) 6) (nested rs)
 
 -- another window becomes the current one
 unfoldable pub turned : ℕ → List ℕ → List ℕ
@@ -72,6 +72,6 @@ turned v rs = set (cleared v (taken v (laid rs))) 33 v
 
 -- "Save and restore add like add, reading in the old window and writing rd in the new. A save at 6 or a restore at 0 ends the run and changes
 -- nothing. .. 8, too many saves; 9, too many restores, each with the nesting." The sum t was read before
-unfoldable pub windowOf : WindowOperation → ℕ → ℕ → List ℕ → Next (List ℕ)
-windowOf Save rd t rs = pick (ltb (nestingOf rs) 6) (go (putRegister (turned (nestingOf rs + 1) rs) rd t)) (halt (ending 8 (nestingOf rs)))
-windowOf Restore rd t rs = pick (ltb 0 (nestingOf rs)) (go (putRegister (turned (nestingOf rs - 1) rs) rd t)) (halt (ending 9 (nestingOf rs)))
+unfoldable pub window_of : WindowOperation → ℕ → ℕ → List ℕ → Next (List ℕ)
+window_of Save rd t rs = pick (ltb (nesting_of rs) 6) (go (put_register (turned (nesting_of rs + 1) rs) rd t)) (halt (ending 8 (nesting_of rs)))
+window_of Restore rd t rs = pick (ltb 0 (nesting_of rs)) (go (put_register (turned (nesting_of rs - 1) rs) rd t)) (halt (ending 9 (nesting_of rs)))

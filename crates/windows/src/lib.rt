@@ -3,15 +3,15 @@
 ghost use Rattle.std.specs.Prelude.{◌≡◌, ◌+◌, ◌*◌, ◌<◌, ◌≤◌, min, get_or};
 ghost use Rattle.words.specs.declared.WindowOperation.TheVariants.{Save, Restore};
 ghost use Rattle.machine.specs.Ends.{left, settle};
-ghost use Rattle.machine.specs.Registers.{fileSize, address_of};
-ghost use Rattle.windows.specs.Windows.{nestingOf, place_of, putEach, laid, taken, cleared, comeIn, turned, windowOf};
+ghost use Rattle.machine.specs.Registers.{file_size, address_of};
+ghost use Rattle.windows.specs.Windows.{nesting_of, place_of, put_each, laid, taken, cleared, come_in, turned, window_of};
 
 use machine::End;
 use machine::registers::{File, address, put};
 use words::{Operand, WindowOperation};
 
 fn nesting(regs: &File) -> u32
-    ensures { result ≡ nestingOf regs.now }
+    ensures { result ≡ nesting_of regs.now }
 {
     regs[33]
 }
@@ -19,14 +19,14 @@ fn nesting(regs: &File) -> u32
 // Where the first of a window's outs, locals or ins stands: those of register 8, 16 or 24.
 fn place(w: u32, eight: usize) -> usize
     requires { (1 ≤ eight) × (eight ≤ 3) }
-    ensures { (result ≡ place_of w (8 * eight)) × (result + 8 ≤ fileSize) }
+    ensures { (result ≡ place_of w (8 * eight)) × (result + 8 ≤ file_size) }
 {
     34 + (16 * (w as usize) + 8 * (3 - eight)) % 128
 }
 
 fn copy_eight(regs: &mut File, from: usize, to: usize)
-    requires { (from + 8 ≤ fileSize) × (to + 8 ≤ fileSize) }
-    ensures { regs.new ≡ putEach (λ k. to + k) (λ k. get_or regs.old (from + k) 0) 8 regs.old }
+    requires { (from + 8 ≤ file_size) × (to + 8 ≤ file_size) }
+    ensures { regs.new ≡ put_each (λ k. to + k) (λ k. get_or regs.old (from + k) 0) 8 regs.old }
 {
     let a = regs[from];
     let b = regs[from + 1];
@@ -47,8 +47,8 @@ fn copy_eight(regs: &mut File, from: usize, to: usize)
 }
 
 fn clear_eight(regs: &mut File, at: usize)
-    requires { at + 8 ≤ fileSize }
-    ensures { regs.new ≡ putEach (λ k. at + k) (λ k. 0) 8 regs.old }
+    requires { at + 8 ≤ file_size }
+    ensures { regs.new ≡ put_each (λ k. at + k) (λ k. 0) 8 regs.old }
 {
     regs[at] = 0;
     regs[at + 1] = 0;
@@ -94,7 +94,7 @@ fn at_most_6(n: u32) -> u32
 
 // A file that was handed in: its nesting at most 6, and 0 where it repeats the current window.
 pub fn come_in(regs: &mut File)
-    ensures { regs.new ≡ comeIn regs.old }
+    ensures { regs.new ≡ come_in regs.old }
 {
     let w = at_most_6(nesting(regs));
     regs[33] = w;
@@ -112,7 +112,7 @@ fn turn(regs: &mut File, v: u32)
 }
 
 fn save(regs: &mut File, rd: u32, t: u32) -> End
-    ensures { left regs.new result ≡ settle regs.old (windowOf Save rd t regs.old) }
+    ensures { left regs.new result ≡ settle regs.old (window_of Save rd t regs.old) }
 {
     let w = nesting(regs);
     if w < 6 {
@@ -124,7 +124,7 @@ fn save(regs: &mut File, rd: u32, t: u32) -> End
 }
 
 fn restore(regs: &mut File, rd: u32, t: u32) -> End
-    ensures { left regs.new result ≡ settle regs.old (windowOf Restore rd t regs.old) }
+    ensures { left regs.new result ≡ settle regs.old (window_of Restore rd t regs.old) }
 {
     let w = nesting(regs);
     if 0 < w {
@@ -137,7 +137,7 @@ fn restore(regs: &mut File, rd: u32, t: u32) -> End
 
 // The sum is read in the old window, and written in the new.
 pub fn window(regs: &mut File, o: WindowOperation, rd: u32, rs1: u32, x: Operand) -> End
-    ensures { left regs.new result ≡ settle regs.old (windowOf o rd (address_of regs.old rs1 x) regs.old) }
+    ensures { left regs.new result ≡ settle regs.old (window_of o rd (address_of regs.old rs1 x) regs.old) }
 {
     let t = address(regs, rs1, x);
     match o {

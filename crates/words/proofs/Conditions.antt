@@ -7,7 +7,7 @@ use mathlib.Core.List.{List, [], ◌∷◌}
 use lib.Dec.{T, eqb}
 use native.Mathlib.Omega.{arith}
 use lib.ListN.{get_or}
-use Rattle.words.specs.Conditions.{rows, bitAt, holds_of, bit_of, nzvcOf, Formula, never, formulas}
+use Rattle.words.specs.Conditions.{rows, bit_at, holds_of, bit_of, nzvc_of, Formula, never, formulas}
 
 -- one test over both tables
 abbrev both : Bool → Bool → Bool
@@ -33,63 +33,63 @@ abbrev same : Bool → Bool → Bool
 same true b = b
 same false b = not b
 
-same-eq : (a b : Bool) → T (same a b) → a ≡ b
-same-eq true true t = refl
-same-eq true false t = absurd t
-same-eq false true t = absurd t
-same-eq false false t = refl
+same_eq : (a b : Bool) → T (same a b) → a ≡ b
+same_eq true true t = refl
+same_eq true false t = absurd t
+same_eq false true t = absurd t
+same_eq false false t = refl
 
-abbrev rowRight : ℕ → Formula → Bool
-rowRight row f = each (λ n. each (λ z. each (λ v. each (λ c. same (bitAt row (nzvcOf n z v c % 16)) (f n z v c)))))
+abbrev row_right : ℕ → Formula → Bool
+row_right row f = each (λ n. each (λ z. each (λ v. each (λ c. same (bit_at row (nzvc_of n z v c % 16)) (f n z v c)))))
 
-abbrev allRight : List ℕ → List Formula → Bool
-allRight [] [] = true
-allRight [] (f ∷ fs) = false
-allRight (row ∷ rs) [] = false
-allRight (row ∷ rs) (f ∷ fs) = both (rowRight row f) (allRight rs fs)
+abbrev all_right : List ℕ → List Formula → Bool
+all_right [] [] = true
+all_right [] (f ∷ fs) = false
+all_right (row ∷ rs) [] = false
+all_right (row ∷ rs) (f ∷ fs) = both (row_right row f) (all_right rs fs)
 
-row_at : (row : ℕ) (f : Formula) → T (rowRight row f) → (n z v c : Bool) → bitAt row (nzvcOf n z v c % 16) ≡ f n z v c
+row_at : (row : ℕ) (f : Formula) → T (row_right row f) → (n z v c : Bool) → bit_at row (nzvc_of n z v c % 16) ≡ f n z v c
 row_at row f t n z v c =
-    same-eq (bitAt row (nzvcOf n z v c % 16)) (f n z v c)
-    (at (λ c. same (bitAt row (nzvcOf n z v c % 16)) (f n z v c))
-    (at (λ v. each (λ c. same (bitAt row (nzvcOf n z v c % 16)) (f n z v c)))
-    (at (λ z. each (λ v. each (λ c. same (bitAt row (nzvcOf n z v c % 16)) (f n z v c))))
-    (at (λ n. each (λ z. each (λ v. each (λ c. same (bitAt row (nzvcOf n z v c % 16)) (f n z v c))))) t n)
+    same_eq (bit_at row (nzvc_of n z v c % 16)) (f n z v c)
+    (at (λ c. same (bit_at row (nzvc_of n z v c % 16)) (f n z v c))
+    (at (λ v. each (λ c. same (bit_at row (nzvc_of n z v c % 16)) (f n z v c)))
+    (at (λ z. each (λ v. each (λ c. same (bit_at row (nzvc_of n z v c % 16)) (f n z v c))))
+    (at (λ n. each (λ z. each (λ v. each (λ c. same (bit_at row (nzvc_of n z v c % 16)) (f n z v c))))) t n)
     z)
     v)
     c)
 
-pub zero_row : (n : ℕ) → bitAt 0 n ≡ false
-unfolding bitAt
+pub zero_row : (n : ℕ) → bit_at 0 n ≡ false
+unfolding bit_at
 zero_row n = rw zero-div
 
-at_row : (rs : List ℕ) (fs : List Formula) → T (allRight rs fs) → (k : ℕ) (n z v c : Bool) → bitAt (get_or rs k 0) (nzvcOf n z v c % 16) ≡ get_or fs k never n z v c
-at_row [] [] t k n z v c = zero_row (nzvcOf n z v c % 16)
+at_row : (rs : List ℕ) (fs : List Formula) → T (all_right rs fs) → (k : ℕ) (n z v c : Bool) → bit_at (get_or rs k 0) (nzvc_of n z v c % 16) ≡ get_or fs k never n z v c
+at_row [] [] t k n z v c = zero_row (nzvc_of n z v c % 16)
 at_row [] (f ∷ fs) t k n z v c = absurd t
 at_row (row ∷ rs) [] t k n z v c = absurd t
-at_row (row ∷ rs) (f ∷ fs) t zero n z v c = row_at row f (left (rowRight row f) (allRight rs fs) t) n z v c
-at_row (row ∷ rs) (f ∷ fs) t (suc k) n z v c = at_row rs fs (right (rowRight row f) (allRight rs fs) t) k n z v c
+at_row (row ∷ rs) (f ∷ fs) t zero n z v c = row_at row f (left (row_right row f) (all_right rs fs) t) n z v c
+at_row (row ∷ rs) (f ∷ fs) t (suc k) n z v c = at_row rs fs (right (row_right row f) (all_right rs fs) t) k n z v c
 
 -- the whole table is V8's: a condition holds of N, Z, V and C exactly where its formula says so
-pub conditions-right : (cond : ℕ) (n z v c : Bool) → holds_of cond (nzvcOf n z v c) ≡ get_or formulas cond never n z v c
-unfolding holds_of rows bitAt nzvcOf bit_of
-conditions-right cond n z v c = at_row rows formulas tt cond n z v c
+pub conditions_right : (cond : ℕ) (n z v c : Bool) → holds_of cond (nzvc_of n z v c) ≡ get_or formulas cond never n z v c
+unfolding holds_of rows bit_at nzvc_of bit_of
+conditions_right cond n z v c = at_row rows formulas tt cond n z v c
 
 -- the same of any flags number, by its four low bits
 abbrev flag : ℕ → ℕ → Bool
 flag nzvc weight = eqb (nzvc / weight % 2) 1
 
-bit-back : (y : ℕ) → y < 2 → bit_of (eqb y 1) ≡ y
+bit_back : (y : ℕ) → y < 2 → bit_of (eqb y 1) ≡ y
 unfolding bit_of
-bit-back zero h = refl
-bit-back (suc zero) h = refl
-bit-back (suc (suc y)) h = absurd (omega arith)
+bit_back zero h = refl
+bit_back (suc zero) h = refl
+bit_back (suc (suc y)) h = absurd (omega arith)
 
 halves : (x : ℕ) → x % 16 ≡ x / 2 / 2 / 2 % 2 * 8 + x / 2 / 2 % 2 * 4 + x / 2 % 2 * 2 + x / 1 % 2
 halves x = omega arith
 
-below-16 : (s n : ℕ) → s ≡ n % 16 → s % 16 ≡ n % 16
-below-16 s n e = omega arith
+below_16 : (s n : ℕ) → s ≡ n % 16 → s % 16 ≡ n % 16
+below_16 s n e = omega arith
 
 quarter : (x : ℕ) → x / 4 ≡ x / 2 / 2
 quarter x = omega arith
@@ -97,23 +97,23 @@ quarter x = omega arith
 eighth : (x : ℕ) → x / 8 ≡ x / 2 / 2 / 2
 eighth x = omega arith
 
-nzvc-back : (x : ℕ) → nzvcOf (flag x 8) (flag x 4) (flag x 2) (flag x 1) % 16 ≡ x % 16
-unfolding nzvcOf
-nzvc-back x =
-    let n = bit-back (x / 8 % 2) (omega arith) in
-    let z = bit-back (x / 4 % 2) (omega arith) in
-    let v = bit-back (x / 2 % 2) (omega arith) in
-    let c = bit-back (x / 1 % 2) (omega arith) in
-    rw (n, z, v, c, quarter x, eighth x) (below-16 _ x (sym (halves x)))
+nzvc_back : (x : ℕ) → nzvc_of (flag x 8) (flag x 4) (flag x 2) (flag x 1) % 16 ≡ x % 16
+unfolding nzvc_of
+nzvc_back x =
+    let n = bit_back (x / 8 % 2) (omega arith) in
+    let z = bit_back (x / 4 % 2) (omega arith) in
+    let v = bit_back (x / 2 % 2) (omega arith) in
+    let c = bit_back (x / 1 % 2) (omega arith) in
+    rw (n, z, v, c, quarter x, eighth x) (below_16 _ x (sym (halves x)))
 
-low-four : (cond nzvc : ℕ) → holds_of cond nzvc ≡ holds_of cond (nzvcOf (flag nzvc 8) (flag nzvc 4) (flag nzvc 2) (flag nzvc 1))
+low_four : (cond nzvc : ℕ) → holds_of cond nzvc ≡ holds_of cond (nzvc_of (flag nzvc 8) (flag nzvc 4) (flag nzvc 2) (flag nzvc 1))
 unfolding holds_of
-low-four cond nzvc = ap (bitAt (get_or rows cond 0)) (sym (nzvc-back nzvc))
+low_four cond nzvc = ap (bit_at (get_or rows cond 0)) (sym (nzvc_back nzvc))
 
-pub conditions-all : (cond nzvc : ℕ) → holds_of cond nzvc ≡ get_or formulas cond never (flag nzvc 8) (flag nzvc 4) (flag nzvc 2) (flag nzvc 1)
-conditions-all cond nzvc = low-four cond nzvc ∙ conditions-right cond (flag nzvc 8) (flag nzvc 4) (flag nzvc 2) (flag nzvc 1)
+pub conditions_all : (cond nzvc : ℕ) → holds_of cond nzvc ≡ get_or formulas cond never (flag nzvc 8) (flag nzvc 4) (flag nzvc 2) (flag nzvc 1)
+conditions_all cond nzvc = low_four cond nzvc ∙ conditions_right cond (flag nzvc 8) (flag nzvc 4) (flag nzvc 2) (flag nzvc 1)
 
-pub bit-lt : (b : Bool) → bit_of b < 2
+pub bit_lt : (b : Bool) → bit_of b < 2
 unfolding bit_of
-bit-lt true = omega arith
-bit-lt false = omega arith
+bit_lt true = omega arith
+bit_lt false = omega arith

@@ -35,11 +35,11 @@ abbrev pub Sounds : List Field → Type 0
 Sounds [] = Unit {0}
 Sounds (f ∷ fs) = Sound f × Sounds fs
 
-pub plain-sound : (n v : ℕ) → Sound (plain n v)
-plain-sound n v e = ltb-true v (2 ^ n) e
+pub plain_sound : (n v : ℕ) → Sound (plain n v)
+plain_sound n v e = ltb-true v (2 ^ n) e
 
-pub sign-sound : (n v : ℕ) → Sound (with_sign n v)
-sign-sound n v e = mod-lt v (pow_pos n)
+pub sign_sound : (n v : ℕ) → Sound (with_sign n v)
+sign_sound n v e = mod-lt v (pow_pos n)
 
 -- n bits behind a number of k bits
 record Pushed (a k n v : ℕ) : Type 0 where
@@ -66,11 +66,11 @@ refused n [] = refl
 refused n (f ∷ fs) = refused n fs
 
 -- the word that fields join to holds them, above them what they were put behind
-pub joined-holds : (fs : List Field) (a k w : ℕ) → Sounds fs → a < 2 ^ k → k + total fs ≤ 32 → joined (Fit a) fs ≡ Fit w
+pub joined_holds : (fs : List Field) (a k w : ℕ) → Sounds fs → a < 2 ^ k → k + total fs ≤ 32 → joined (Fit a) fs ≡ Fit w
     → (w / 2 ^ total fs ≡ a) × Holds w fs
 unfolding bits
-joined-holds [] a k w s p l e = let h : a ≡ w = cc in (div-one w ∙ sym h, tt)
-joined-holds (f ∷ fs) a k w s p l e = go f.fits refl e (λ b j q r d. joined-holds fs b j w s.1 q r d)
+joined_holds [] a k w s p l e = let h : a ≡ w = cc in (div-one w ∙ sym h, tt)
+joined_holds (f ∷ fs) a k w s p l e = go f.fits refl e (λ b j q r d. joined_holds fs b j w s.1 q r d)
   where
     go : (t : Bool) → f.fits ≡ t → joined (pick t (Fit (plus (a * 2 ^ f.width) f.value)) (Unfit f.width)) fs ≡ Fit w
         → ((b j : ℕ) → b < 2 ^ j → j + total fs ≤ 32 → joined (Fit b) fs ≡ Fit w → (w / 2 ^ total fs ≡ b) × Holds w fs)

@@ -9,20 +9,20 @@ rows =
     ∷ []
 
 -- bit n of a row
-unfoldable pub bitAt : ℕ → ℕ → Bool
-bitAt row n = eqb (row / 2 ^ n % 2) 1
+unfoldable pub bit_at : ℕ → ℕ → Bool
+bit_at row n = eqb (row / 2 ^ n % 2) 1
 
 -- whether a condition holds of the flags 8N + 4Z + 2V + C
 unfoldable pub holds_of : ℕ → ℕ → Bool
-holds_of cond nzvc = bitAt (get_or rows cond 0) (nzvc % 16)
+holds_of cond nzvc = bit_at (get_or rows cond 0) (nzvc % 16)
 
 -- a flag as a number, and the four of them as one
 unfoldable pub bit_of : Bool → ℕ
 bit_of true = 1
 bit_of false = 0
 
-unfoldable pub nzvcOf : Bool → Bool → Bool → Bool → ℕ
-nzvcOf n z v c = bit_of n * 8 + bit_of z * 4 + bit_of v * 2 + bit_of c
+unfoldable pub nzvc_of : Bool → Bool → Bool → Bool → ℕ
+nzvc_of n z v c = bit_of n * 8 + bit_of z * 4 + bit_of v * 2 + bit_of c
 
 abbrev pub or : Bool → Bool → Bool
 or true b = true

@@ -17,12 +17,12 @@ use Rattle.words.specs.declared.Instruction.TheVariants.{Illegal, Call, Sethi, B
 unfoldable pub bits : ℕ → ℕ → ℕ → ℕ
 bits word low width = word / 2 ^ low % 2 ^ width
 
-unfoldable pub bitSet : ℕ → ℕ → Bool
-bitSet word n = eqb (bits word n 1) 1
+unfoldable pub bit_set : ℕ → ℕ → Bool
+bit_set word n = eqb (bits word n 1) 1
 
 -- bit 13 tells a constant, simm13, from a register, rs2
-unfoldable pub operandOf : ℕ → Operand
-operandOf word = pick (bitSet word 13) (Constant (signed 13 (bits word 0 13))) (Register (bits word 0 5))
+unfoldable pub operand_of : ℕ → Operand
+operand_of word = pick (bit_set word 13) (Constant (signed 13 (bits word 0 13))) (Register (bits word 0 5))
 
 abbrev pub sources : ℕ → Operand → Sources
 sources r x = record { rs1 = r; operand = x }
@@ -30,10 +30,10 @@ sources r x = record { rs1 = r; operand = x }
 -- format 0, by op2: branches and sethi
 abbrev pub rows0 : ℕ → List (ℕ × Instruction)
 rows0 word =
-    (2, Bicc (bits word 25 4) (bitSet word 29) (signed 22 (bits word 0 22))) ∷ (4, Sethi (bits word 25 5) (bits word 0 22)) ∷ []
+    (2, Bicc (bits word 25 4) (bit_set word 29) (signed 22 (bits word 0 22))) ∷ (4, Sethi (bits word 25 5) (bits word 0 22)) ∷ []
 
-unfoldable pub format0Of : ℕ → Instruction
-format0Of word = find (rows0 word) Illegal (bits word 22 3)
+unfoldable pub format0_of : ℕ → Instruction
+format0_of word = find (rows0 word) Illegal (bits word 22 3)
 
 -- format 2, by op3: what the word reads as, from its fields cond, rd, rs1 and its second operand. 02, N4: "Add umul, smul, umulcc, smulcc, rdy and
 -- wry from V8"; N11: "Compiled images use save and restore, now illegal. Add V8's windows"
@@ -43,8 +43,8 @@ Format2 = ℕ → ℕ → ℕ → Operand → Instruction
 abbrev pub none2 : Format2
 none2 cond rd rs1 x = Illegal
 
-abbrev pub arithmeticRows : List (ℕ × Format2)
-arithmeticRows =
+abbrev pub arithmetic_rows : List (ℕ × Format2)
+arithmetic_rows =
     (0, λ cond rd rs1 x. Arithmetic Add false rd rs1 x)
     ∷ (1, λ cond rd rs1 x. Arithmetic And false rd rs1 x)
     ∷ (2, λ cond rd rs1 x. Arithmetic Or false rd rs1 x)
@@ -71,8 +71,8 @@ arithmeticRows =
     ∷ (28, λ cond rd rs1 x. Arithmetic Subx true rd rs1 x)
     ∷ []
 
-abbrev pub otherRows : List (ℕ × Format2)
-otherRows =
+abbrev pub other_rows : List (ℕ × Format2)
+other_rows =
     (37, λ cond rd rs1 x. Shift Sll rd rs1 x)
     ∷ (38, λ cond rd rs1 x. Shift Srl rd rs1 x)
     ∷ (39, λ cond rd rs1 x. Shift Sra rd rs1 x)
@@ -85,10 +85,10 @@ otherRows =
     ∷ []
 
 abbrev pub rows2 : List (ℕ × Format2)
-rows2 = arithmeticRows ++ otherRows
+rows2 = arithmetic_rows ++ other_rows
 
-unfoldable pub format2Of : ℕ → Format2
-format2Of op3 = find rows2 none2 op3
+unfoldable pub format2_of : ℕ → Format2
+format2_of op3 = find rows2 none2 op3
 
 -- format 3, by op3: loads and stores, from rd, rs1 and the second operand
 abbrev pub Format3 : Type 0
@@ -109,70 +109,70 @@ rows3 =
     ∷ (10, λ rd rs1 x. Load Ldsh rd rs1 x)
     ∷ []
 
-unfoldable pub format3Of : ℕ → Format3
-format3Of op3 = find rows3 none3 op3
+unfoldable pub format3_of : ℕ → Format3
+format3_of op3 = find rows3 none3 op3
 
 -- "Bits 31 and 30 of a word choose its format"
-unfoldable pub byFormat : ℕ → ℕ → Instruction
-byFormat zero word = format0Of word
-byFormat (suc zero) word = Call (signed 30 (bits word 0 30))
-byFormat (suc (suc zero)) word = format2Of (bits word 19 6) (bits word 25 4) (bits word 25 5) (bits word 14 5) (operandOf word)
-byFormat (suc (suc (suc n))) word = format3Of (bits word 19 6) (bits word 25 5) (bits word 14 5) (operandOf word)
+unfoldable pub by_format : ℕ → ℕ → Instruction
+by_format zero word = format0_of word
+by_format (suc zero) word = Call (signed 30 (bits word 0 30))
+by_format (suc (suc zero)) word = format2_of (bits word 19 6) (bits word 25 4) (bits word 25 5) (bits word 14 5) (operand_of word)
+by_format (suc (suc (suc n))) word = format3_of (bits word 19 6) (bits word 25 5) (bits word 14 5) (operand_of word)
 
 -- 02, N2: "The reader .. takes a word with an unused bit set as illegal": a bit from the given one to bit 12
-unfoldable pub setFrom : ℕ → ℕ → Bool
-setFrom n word = not (eqb (bits word n (13 - n)) 0)
+unfoldable pub set_from : ℕ → ℕ → Bool
+set_from n word = not (eqb (bits word n (13 - n)) 0)
 
 -- "bits 12 to 5 when the second operand is a register"
-unfoldable pub registerStrays : ℕ → Bool
-registerStrays word = not (bitSet word 13) && setFrom 5 word
+unfoldable pub register_strays : ℕ → Bool
+register_strays word = not (bit_set word 13) && set_from 5 word
 
 -- 02, N4: "Rdy with rs1 not 0 and wry with rd not 0 are illegal, as is rdy with any of bits 13 to 0 set."
-unfoldable pub rdyStrays : ℕ → Bool
-rdyStrays word = not (eqb (bits word 14 5) 0) || not (eqb (bits word 0 14) 0)
+unfoldable pub rdy_strays : ℕ → Bool
+rdy_strays word = not (eqb (bits word 14 5) 0) || not (eqb (bits word 0 14) 0)
 
-unfoldable pub wryStrays : ℕ → Bool
-wryStrays word = not (eqb (bits word 25 5) 0)
+unfoldable pub wry_strays : ℕ → Bool
+wry_strays word = not (eqb (bits word 25 5) 0)
 
 -- 02, N2: "or a shift's constant; bits 12 to 7 of a Ticc with a constant; bit 29 of a Ticc"; call, sethi and Bicc use all their bits
-unfoldable pub unusedSet : Instruction → ℕ → Bool
-unusedSet Illegal word = false
-unusedSet (Call disp) word = false
-unusedSet (Sethi rd imm) word = false
-unusedSet (Bicc cond annul disp) word = false
-unusedSet (Arithmetic o cc rd rs1 x) word = registerStrays word
-unusedSet (Jmpl rd rs1 x) word = registerStrays word
-unusedSet (Ticc cond rs1 x) word = registerStrays word || (bitSet word 29 || setFrom 7 word)
-unusedSet (Load o rd rs1 x) word = registerStrays word
-unusedSet (Store w rd rs1 x) word = registerStrays word
-unusedSet (Shift o rd rs1 x) word = setFrom 5 word
-unusedSet (Rdy rd) word = rdyStrays word
-unusedSet (Wry s) word = registerStrays word || wryStrays word
-unusedSet (Window o rd rs1 x) word = registerStrays word
+unfoldable pub unused_set : Instruction → ℕ → Bool
+unused_set Illegal word = false
+unused_set (Call disp) word = false
+unused_set (Sethi rd imm) word = false
+unused_set (Bicc cond annul disp) word = false
+unused_set (Arithmetic o cc rd rs1 x) word = register_strays word
+unused_set (Jmpl rd rs1 x) word = register_strays word
+unused_set (Ticc cond rs1 x) word = register_strays word || (bit_set word 29 || set_from 7 word)
+unused_set (Load o rd rs1 x) word = register_strays word
+unused_set (Store w rd rs1 x) word = register_strays word
+unused_set (Shift o rd rs1 x) word = set_from 5 word
+unused_set (Rdy rd) word = rdy_strays word
+unused_set (Wry s) word = register_strays word || wry_strays word
+unused_set (Window o rd rs1 x) word = register_strays word
 
 unfoldable pub strictly : ℕ → Instruction → Instruction
-strictly word i = pick (unusedSet i word) Illegal i
+strictly word i = pick (unused_set i word) Illegal i
 
 -- "All others are illegal."
-unfoldable pub instructionOf : ℕ → Instruction
-instructionOf word = strictly word (byFormat (bits word 30 2) word)
+unfoldable pub instruction_of : ℕ → Instruction
+instruction_of word = strictly word (by_format (bits word 30 2) word)
 
 -- 02, N1: a word "with bits 31, 30 and 24 to 22 all 0", as V8 draws unimp, whatever else it reads as
-unfoldable pub isUnimp : ℕ → Bool
-isUnimp word = eqb (bits word 30 2) 0 && eqb (bits word 22 3) 0
+unfoldable pub is_unimp : ℕ → Bool
+is_unimp word = eqb (bits word 30 2) 0 && eqb (bits word 22 3) 0
 
 -- an instruction where a jmpl is called for: any other is as good as illegal
-unfoldable pub asJmpl : Instruction → Instruction
-asJmpl Illegal = Illegal
-asJmpl (Call disp) = Illegal
-asJmpl (Sethi rd imm) = Illegal
-asJmpl (Bicc cond annul disp) = Illegal
-asJmpl (Arithmetic o cc rd rs1 x) = Illegal
-asJmpl (Jmpl rd rs1 x) = Jmpl rd rs1 x
-asJmpl (Ticc cond rs1 x) = Illegal
-asJmpl (Load o rd rs1 x) = Illegal
-asJmpl (Store w rd rs1 x) = Illegal
-asJmpl (Shift o rd rs1 x) = Illegal
-asJmpl (Rdy rd) = Illegal
-asJmpl (Wry s) = Illegal
-asJmpl (Window o rd rs1 x) = Illegal
+unfoldable pub as_jmpl : Instruction → Instruction
+as_jmpl Illegal = Illegal
+as_jmpl (Call disp) = Illegal
+as_jmpl (Sethi rd imm) = Illegal
+as_jmpl (Bicc cond annul disp) = Illegal
+as_jmpl (Arithmetic o cc rd rs1 x) = Illegal
+as_jmpl (Jmpl rd rs1 x) = Jmpl rd rs1 x
+as_jmpl (Ticc cond rs1 x) = Illegal
+as_jmpl (Load o rd rs1 x) = Illegal
+as_jmpl (Store w rd rs1 x) = Illegal
+as_jmpl (Shift o rd rs1 x) = Illegal
+as_jmpl (Rdy rd) = Illegal
+as_jmpl (Wry s) = Illegal
+as_jmpl (Window o rd rs1 x) = Illegal

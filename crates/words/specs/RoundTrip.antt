@@ -4,11 +4,11 @@ use Rattle.std.specs.Prelude.{ℕ, ◌^◌, ◌<◌, ◌≡◌}
 use Rattle.words.specs.declared.Instruction.{Instruction}
 use Rattle.words.specs.declared.Instruction.TheVariants.{Illegal}
 use Rattle.words.specs.declared.Written.TheVariants.{Fit}
-use Rattle.words.specs.Reader.{instructionOf}
+use Rattle.words.specs.Reader.{instruction_of}
 use Rattle.words.specs.Writer.{written_of}
 
 abbrev pub ReadsBack : Type 0
-ReadsBack = (i : Instruction) (word : ℕ) → written_of i ≡ Fit word → instructionOf word ≡ i
+ReadsBack = (i : Instruction) (word : ℕ) → written_of i ≡ Fit word → instruction_of word ≡ i
 
 abbrev pub WritesAgain : Type 0
-WritesAgain = (word : ℕ) → word < 2 ^ 32 → (instructionOf word ≡ Illegal → ⊥) → written_of (instructionOf word) ≡ Fit word
+WritesAgain = (word : ℕ) → word < 2 ^ 32 → (instruction_of word ≡ Illegal → ⊥) → written_of (instruction_of word) ≡ Fit word

@@ -62,63 +62,63 @@ abbrev pub constant5 : ℕ → List Field
 constant5 k = plain 8 0 ∷ plain 5 k ∷ []
 
 -- op3 of each operation
-unfoldable pub arithmeticOp3 : Operation → Bool → ℕ
-arithmeticOp3 Add cc = pick cc 16 0
-arithmeticOp3 And cc = pick cc 17 1
-arithmeticOp3 Or cc = pick cc 18 2
-arithmeticOp3 Xor cc = pick cc 19 3
-arithmeticOp3 Sub cc = pick cc 20 4
-arithmeticOp3 Andn cc = pick cc 21 5
-arithmeticOp3 Orn cc = pick cc 22 6
-arithmeticOp3 Xnor cc = pick cc 23 7
-arithmeticOp3 Addx cc = pick cc 24 8
-arithmeticOp3 Umul cc = pick cc 26 10
-arithmeticOp3 Smul cc = pick cc 27 11
-arithmeticOp3 Subx cc = pick cc 28 12
+unfoldable pub arithmetic_op3 : Operation → Bool → ℕ
+arithmetic_op3 Add cc = pick cc 16 0
+arithmetic_op3 And cc = pick cc 17 1
+arithmetic_op3 Or cc = pick cc 18 2
+arithmetic_op3 Xor cc = pick cc 19 3
+arithmetic_op3 Sub cc = pick cc 20 4
+arithmetic_op3 Andn cc = pick cc 21 5
+arithmetic_op3 Orn cc = pick cc 22 6
+arithmetic_op3 Xnor cc = pick cc 23 7
+arithmetic_op3 Addx cc = pick cc 24 8
+arithmetic_op3 Umul cc = pick cc 26 10
+arithmetic_op3 Smul cc = pick cc 27 11
+arithmetic_op3 Subx cc = pick cc 28 12
 
-unfoldable pub shiftOp3 : ShiftOperation → ℕ
-shiftOp3 Sll = 37
-shiftOp3 Srl = 38
-shiftOp3 Sra = 39
+unfoldable pub shift_op3 : ShiftOperation → ℕ
+shift_op3 Sll = 37
+shift_op3 Srl = 38
+shift_op3 Sra = 39
 
-unfoldable pub windowOp3 : WindowOperation → ℕ
-windowOp3 Save = 60
-windowOp3 Restore = 61
+unfoldable pub window_op3 : WindowOperation → ℕ
+window_op3 Save = 60
+window_op3 Restore = 61
 
-unfoldable pub loadOp3 : LoadOperation → ℕ
-loadOp3 Ld = 0
-loadOp3 Ldub = 1
-loadOp3 Lduh = 2
-loadOp3 Ldsb = 9
-loadOp3 Ldsh = 10
+unfoldable pub load_op3 : LoadOperation → ℕ
+load_op3 Ld = 0
+load_op3 Ldub = 1
+load_op3 Lduh = 2
+load_op3 Ldsb = 9
+load_op3 Ldsh = 10
 
-unfoldable pub storeOp3 : Width → ℕ
-storeOp3 Word = 4
-storeOp3 Byte = 5
-storeOp3 Half = 6
+unfoldable pub store_op3 : Width → ℕ
+store_op3 Word = 4
+store_op3 Byte = 5
+store_op3 Half = 6
 
 -- op, a register or a condition, op3, rs1 and the second operand
-unfoldable pub longWord : ℕ → ℕ → ℕ → ℕ → Operand → Written
-longWord op rd op3 rs1 x = joined (Fit op) (plain 5 rd ∷ plain 6 op3 ∷ plain 5 rs1 ∷ operand constant13 x)
+unfoldable pub long_word : ℕ → ℕ → ℕ → ℕ → Operand → Written
+long_word op rd op3 rs1 x = joined (Fit op) (plain 5 rd ∷ plain 6 op3 ∷ plain 5 rs1 ∷ operand constant13 x)
 
-unfoldable pub shiftWord : ℕ → ℕ → ℕ → Operand → Written
-shiftWord rd op3 rs1 x = joined (Fit 2) (plain 5 rd ∷ plain 6 op3 ∷ plain 5 rs1 ∷ operand constant5 x)
+unfoldable pub shift_word : ℕ → ℕ → ℕ → Operand → Written
+shift_word rd op3 rs1 x = joined (Fit 2) (plain 5 rd ∷ plain 6 op3 ∷ plain 5 rs1 ∷ operand constant5 x)
 
 -- 02, N4: "N2's writer covers them"; what rdy and wry do not have is 0
-unfoldable pub rdyWord : ℕ → Written
-rdyWord rd = longWord 2 rd 40 0 (Register 0)
+unfoldable pub rdy_word : ℕ → Written
+rdy_word rd = long_word 2 rd 40 0 (Register 0)
 
-unfoldable pub wryWord : ℕ → Operand → Written
-wryWord rs1 x = longWord 2 0 48 rs1 x
+unfoldable pub wry_word : ℕ → Operand → Written
+wry_word rs1 x = long_word 2 0 48 rs1 x
 
-unfoldable pub trapWord : ℕ → ℕ → Operand → Written
-trapWord cond rs1 x = joined (Fit 2) (plain 1 0 ∷ plain 4 cond ∷ plain 6 58 ∷ plain 5 rs1 ∷ operand constant7 x)
+unfoldable pub trap_word : ℕ → ℕ → Operand → Written
+trap_word cond rs1 x = joined (Fit 2) (plain 1 0 ∷ plain 4 cond ∷ plain 6 58 ∷ plain 5 rs1 ∷ operand constant7 x)
 
-unfoldable pub sethiWord : ℕ → ℕ → Written
-sethiWord rd imm = joined (Fit 0) (plain 5 rd ∷ plain 3 4 ∷ plain 22 imm ∷ [])
+unfoldable pub sethi_word : ℕ → ℕ → Written
+sethi_word rd imm = joined (Fit 0) (plain 5 rd ∷ plain 3 4 ∷ plain 22 imm ∷ [])
 
-unfoldable pub branchWord : ℕ → Bool → ℕ → Written
-branchWord cond annul disp = joined (Fit 0) (plain 1 (bit_of annul) ∷ plain 4 cond ∷ plain 3 2 ∷ with_sign 22 disp ∷ [])
+unfoldable pub branch_word : ℕ → Bool → ℕ → Written
+branch_word cond annul disp = joined (Fit 0) (plain 1 (bit_of annul) ∷ plain 4 cond ∷ plain 3 2 ∷ with_sign 22 disp ∷ [])
 
 unfoldable pub call_word : ℕ → Written
 call_word disp = joined (Fit 1) (with_sign 30 disp ∷ [])
@@ -127,15 +127,15 @@ call_word disp = joined (Fit 1) (with_sign 30 disp ∷ [])
 unfoldable pub written_of : Instruction → Written
 written_of Illegal = Unfit 0
 written_of (Call disp) = call_word disp
-written_of (Sethi rd imm) = sethiWord rd imm
-written_of (Bicc cond annul disp) = branchWord cond annul disp
-written_of (Arithmetic o cc rd rs1 x) = longWord 2 rd (arithmeticOp3 o cc) rs1 x
-written_of (Jmpl rd rs1 x) = longWord 2 rd 56 rs1 x
-written_of (Ticc cond rs1 x) = trapWord cond rs1 x
-written_of (Load o rd rs1 x) = longWord 3 rd (loadOp3 o) rs1 x
-written_of (Store w rd rs1 x) = longWord 3 rd (storeOp3 w) rs1 x
-written_of (Shift o rd rs1 x) = shiftWord rd (shiftOp3 o) rs1 x
-written_of (Rdy rd) = rdyWord rd
-written_of (Wry s) = wryWord s.rs1 s.operand
+written_of (Sethi rd imm) = sethi_word rd imm
+written_of (Bicc cond annul disp) = branch_word cond annul disp
+written_of (Arithmetic o cc rd rs1 x) = long_word 2 rd (arithmetic_op3 o cc) rs1 x
+written_of (Jmpl rd rs1 x) = long_word 2 rd 56 rs1 x
+written_of (Ticc cond rs1 x) = trap_word cond rs1 x
+written_of (Load o rd rs1 x) = long_word 3 rd (load_op3 o) rs1 x
+written_of (Store w rd rs1 x) = long_word 3 rd (store_op3 w) rs1 x
+written_of (Shift o rd rs1 x) = shift_word rd (shift_op3 o) rs1 x
+written_of (Rdy rd) = rdy_word rd
+written_of (Wry s) = wry_word s.rs1 s.operand
 -- 02, N11: "N2's writer gains both words"
-written_of (Window o rd rs1 x) = longWord 2 rd (windowOp3 o) rs1 x
+written_of (Window o rd rs1 x) = long_word 2 rd (window_op3 o) rs1 x

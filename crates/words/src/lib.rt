@@ -3,8 +3,8 @@ ghost use Rattle.std.specs.Prelude.{◌≡◌, ◌||◌, ◌<◌};
 ghost use Rattle.numbers.specs.Choice.{find};
 ghost use Rattle.numbers.specs.Number.{signed};
 ghost use Rattle.words.specs.declared.Instruction.TheVariants.{Arithmetic, Jmpl, Ticc, Load, Store, Shift, Rdy, Wry, Window};
-ghost use Rattle.words.specs.Reader.{bits, bitSet, registerStrays, setFrom, rdyStrays, strictly, operandOf, sources, format0Of, none2, otherRows, format2Of, format3Of, instructionOf, isUnimp, asJmpl};
-ghost use Rattle.words.specs.Conditions.{bitAt, holds_of};
+ghost use Rattle.words.specs.Reader.{bits, bit_set, register_strays, set_from, rdy_strays, strictly, operand_of, sources, format0_of, none2, other_rows, format2_of, format3_of, instruction_of, is_unimp, as_jmpl};
+ghost use Rattle.words.specs.Conditions.{bit_at, holds_of};
 
 // The second operand: a register, or a constant. A shift's constant has 5 bits and a Ticc's 7; any other is a signed one of 13, extended to 32.
 #[derive(Drop)]
@@ -151,7 +151,7 @@ pub fn cond(word: u32) -> u32
 }
 
 pub fn annul_bit(word: u32) -> bool
-    ensures { result ≡ bitSet word 29 }
+    ensures { result ≡ bit_set word 29 }
 {
     (word >> 29) & 1 == 1
 }
@@ -175,7 +175,7 @@ fn rs2(word: u32) -> u32
 }
 
 pub fn constant_bit(word: u32) -> bool
-    ensures { result ≡ bitSet word 13 }
+    ensures { result ≡ bit_set word 13 }
 {
     (word >> 13) & 1 == 1
 }
@@ -211,7 +211,7 @@ pub fn disp30(word: u32) -> u32
 // ---- the reader
 
 fn second_operand(word: u32) -> Operand
-    ensures { result ≡ operandOf word }
+    ensures { result ≡ operand_of word }
 {
     if constant_bit(word) {
         Operand::Constant(simm13(word))
@@ -235,7 +235,7 @@ fn high6(word: u32) -> u32
 
 // Whether a bit is set that is unused where the second operand is a register.
 fn register_strays(word: u32) -> bool
-    ensures { result ≡ registerStrays word }
+    ensures { result ≡ register_strays word }
 {
     if constant_bit(word) {
         return false;
@@ -245,7 +245,7 @@ fn register_strays(word: u32) -> bool
 
 // The same of a Ticc's constant, and of its bit 29.
 pub fn trap_strays(word: u32) -> bool
-    ensures { result ≡ bitSet word 29 || setFrom 7 word }
+    ensures { result ≡ bit_set word 29 || set_from 7 word }
 {
     if annul_bit(word) {
         return true;
@@ -257,7 +257,7 @@ pub fn trap_strays(word: u32) -> bool
 // In the three that are met most a constant is told first, and only a register's word is tested.
 
 fn arithmetic(o: Operation, cc: bool, word: u32) -> Instruction
-    ensures { result ≡ strictly word (Arithmetic o cc (bits word 25 5) (bits word 14 5) (operandOf word)) }
+    ensures { result ≡ strictly word (Arithmetic o cc (bits word 25 5) (bits word 14 5) (operand_of word)) }
 {
     if constant_bit(word) {
         let k = Operand::Constant(simm13(word));
@@ -271,7 +271,7 @@ fn arithmetic(o: Operation, cc: bool, word: u32) -> Instruction
 }
 
 fn jump(word: u32) -> Instruction
-    ensures { result ≡ strictly word (Jmpl (bits word 25 5) (bits word 14 5) (operandOf word)) }
+    ensures { result ≡ strictly word (Jmpl (bits word 25 5) (bits word 14 5) (operand_of word)) }
 {
     if register_strays(word) {
         return Instruction::Illegal;
@@ -280,7 +280,7 @@ fn jump(word: u32) -> Instruction
 }
 
 fn load(o: LoadOperation, word: u32) -> Instruction
-    ensures { result ≡ strictly word (Load o (bits word 25 5) (bits word 14 5) (operandOf word)) }
+    ensures { result ≡ strictly word (Load o (bits word 25 5) (bits word 14 5) (operand_of word)) }
 {
     if constant_bit(word) {
         let k = Operand::Constant(simm13(word));
@@ -294,7 +294,7 @@ fn load(o: LoadOperation, word: u32) -> Instruction
 }
 
 fn store(w: Width, word: u32) -> Instruction
-    ensures { result ≡ strictly word (Store w (bits word 25 5) (bits word 14 5) (operandOf word)) }
+    ensures { result ≡ strictly word (Store w (bits word 25 5) (bits word 14 5) (operand_of word)) }
 {
     if constant_bit(word) {
         let k = Operand::Constant(simm13(word));
@@ -308,7 +308,7 @@ fn store(w: Width, word: u32) -> Instruction
 }
 
 fn shift(o: ShiftOperation, word: u32) -> Instruction
-    ensures { result ≡ strictly word (Shift o (bits word 25 5) (bits word 14 5) (operandOf word)) }
+    ensures { result ≡ strictly word (Shift o (bits word 25 5) (bits word 14 5) (operand_of word)) }
 {
     if high8(word) != 0 {
         return Instruction::Illegal;
@@ -317,7 +317,7 @@ fn shift(o: ShiftOperation, word: u32) -> Instruction
 }
 
 fn window(o: WindowOperation, word: u32) -> Instruction
-    ensures { result ≡ strictly word (Window o (bits word 25 5) (bits word 14 5) (operandOf word)) }
+    ensures { result ≡ strictly word (Window o (bits word 25 5) (bits word 14 5) (operand_of word)) }
 {
     if register_strays(word) {
         return Instruction::Illegal;
@@ -326,7 +326,7 @@ fn window(o: WindowOperation, word: u32) -> Instruction
 }
 
 fn trap(word: u32) -> Instruction
-    ensures { result ≡ strictly word (Ticc (bits word 25 4) (bits word 14 5) (operandOf word)) }
+    ensures { result ≡ strictly word (Ticc (bits word 25 4) (bits word 14 5) (operand_of word)) }
 {
     if register_strays(word) {
         return Instruction::Illegal;
@@ -345,7 +345,7 @@ fn low14(word: u32) -> u32
 }
 
 pub fn rdy_strays(word: u32) -> bool
-    ensures { result ≡ rdyStrays word }
+    ensures { result ≡ rdy_strays word }
 {
     if rs1(word) != 0 {
         return true;
@@ -363,7 +363,7 @@ fn rdy(word: u32) -> Instruction
 }
 
 fn wry(word: u32) -> Instruction
-    ensures { result ≡ strictly word (Wry (sources (bits word 14 5) (operandOf word))) }
+    ensures { result ≡ strictly word (Wry (sources (bits word 14 5) (operand_of word))) }
 {
     if register_strays(word) {
         return Instruction::Illegal;
@@ -380,7 +380,7 @@ fn wry(word: u32) -> Instruction
 
 // Format 0, by op2: branches and sethi.
 fn format0(word: u32) -> Instruction
-    ensures { result ≡ format0Of word }
+    ensures { result ≡ format0_of word }
 {
     let k = op2(word);
     match k {
@@ -392,7 +392,7 @@ fn format0(word: u32) -> Instruction
 
 // Format 2, by op3: shifts, Y, jmpl, Ticc and windows.
 fn other2(op3: u32, word: u32) -> Instruction
-    ensures { result ≡ strictly word (find otherRows none2 op3 (bits word 25 4) (bits word 25 5) (bits word 14 5) (operandOf word)) }
+    ensures { result ≡ strictly word (find other_rows none2 op3 (bits word 25 4) (bits word 25 5) (bits word 14 5) (operand_of word)) }
 {
     match op3 {
         37 => shift(ShiftOperation::Sll, word),
@@ -410,7 +410,7 @@ fn other2(op3: u32, word: u32) -> Instruction
 
 // Format 2, by op3: arithmetic, and the others.
 fn format2(op3: u32, word: u32) -> Instruction
-    ensures { result ≡ strictly word (format2Of op3 (bits word 25 4) (bits word 25 5) (bits word 14 5) (operandOf word)) }
+    ensures { result ≡ strictly word (format2_of op3 (bits word 25 4) (bits word 25 5) (bits word 14 5) (operand_of word)) }
 {
     match op3 {
         0 => arithmetic(Operation::Add, false, word),
@@ -443,7 +443,7 @@ fn format2(op3: u32, word: u32) -> Instruction
 
 // Format 3, by op3: loads and stores.
 fn format3(op3: u32, word: u32) -> Instruction
-    ensures { result ≡ strictly word (format3Of op3 (bits word 25 5) (bits word 14 5) (operandOf word)) }
+    ensures { result ≡ strictly word (format3_of op3 (bits word 25 5) (bits word 14 5) (operand_of word)) }
 {
     match op3 {
         0 => load(LoadOperation::Ld, word),
@@ -460,7 +460,7 @@ fn format3(op3: u32, word: u32) -> Instruction
 
 // The instruction that a word reads as. A word with an unused bit set is illegal.
 pub fn read_instruction(word: u32) -> Instruction
-    ensures { result ≡ instructionOf word }
+    ensures { result ≡ instruction_of word }
 {
     let k = op(word);
     if k < 2 {
@@ -477,7 +477,7 @@ pub fn read_instruction(word: u32) -> Instruction
 
 // The same, for a jmpl alone. Where only a jmpl will do, this is quicker, and the whole reader keeps its one caller.
 pub fn read_jmpl(word: u32) -> Instruction
-    ensures { result ≡ asJmpl (instructionOf word) }
+    ensures { result ≡ as_jmpl (instruction_of word) }
 {
     if op(word) == 2 {
         if op3(word) == 56 {
@@ -489,7 +489,7 @@ pub fn read_jmpl(word: u32) -> Instruction
 
 // Whether a word is an unimp, by its raw bits.
 pub fn is_unimp(word: u32) -> bool
-    ensures { result ≡ isUnimp word }
+    ensures { result ≡ is_unimp word }
 {
     if op(word) == 0 {
         return op2(word) == 0;
@@ -507,7 +507,7 @@ const CONDITIONS: [u16; 16] = [
 
 fn bit_at(row: u16, n: u32) -> bool
     requires { n < 16 }
-    ensures { result ≡ bitAt row n }
+    ensures { result ≡ bit_at row n }
 {
     let w = row as u32;
     (w >> n) & 1 == 1

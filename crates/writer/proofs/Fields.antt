@@ -12,7 +12,7 @@ use Rattle.words.specs.declared.Operation.{Operation}
 use Rattle.words.specs.declared.Operation.TheVariants.{Add, And, Or, Xor, Sub, Andn, Orn, Xnor, Addx, Subx, Umul, Smul}
 use Rattle.words.specs.declared.Written.{Written}
 use Rattle.words.specs.declared.Written.TheVariants.{Fit, Unfit}
-use Rattle.words.specs.Writer.{field, plain, with_sign, behind, arithmeticOp3}
+use Rattle.words.specs.Writer.{field, plain, with_sign, behind, arithmetic_op3}
 
 below_power : (v n : ℕ) → v / 2 ^ n ≡ 0 → v < 2 ^ n
 below_power v n e =
@@ -20,20 +20,20 @@ below_power v n e =
     let g : v < 1 * 2 ^ n = (div-lt_iff_lt-mul (pow_pos n)).0 h in
     omega arith
 
-not-below : (v n : ℕ) → (v / 2 ^ n ≡ 0 → ⊥) → 2 ^ n ≤ v
-not-below v n e = go (ltb v (2 ^ n)) refl
+not_below : (v n : ℕ) → (v / 2 ^ n ≡ 0 → ⊥) → 2 ^ n ≤ v
+not_below v n e = go (ltb v (2 ^ n)) refl
   where
     go : (b : Bool) → ltb v (2 ^ n) ≡ b → 2 ^ n ≤ v
     go true t = absurd (e (div-eq_of_lt (ltb-true v (2 ^ n) t)))
     go false t = ltb-false v (2 ^ n) t
 
 -- a plain number
-pub put-fits : (word n v r : ℕ) → v / 2 ^ n ≡ 0 → r ≡ plus (word * 2 ^ n % 2 ^ 32) v → Fit r ≡ behind (Fit word) (plain n v)
+pub put_fits : (word n v r : ℕ) → v / 2 ^ n ≡ 0 → r ≡ plus (word * 2 ^ n % 2 ^ 32) v → Fit r ≡ behind (Fit word) (plain n v)
 unfolding plus
-put-fits word n v r h e = rw (lt-ltb v (2 ^ n) (below_power v n h), e, mod-add-mod (word * 2 ^ n) (2 ^ 32) v)
+put_fits word n v r h e = rw (lt-ltb v (2 ^ n) (below_power v n h), e, mod-add-mod (word * 2 ^ n) (2 ^ 32) v)
 
-pub put-unfit : (word n v : ℕ) → (v / 2 ^ n ≡ 0 → ⊥) → Unfit n ≡ behind (Fit word) (plain n v)
-put-unfit word n v h = rw (le-ltb v (2 ^ n) (not-below v n h))
+pub put_unfit : (word n v : ℕ) → (v / 2 ^ n ≡ 0 → ⊥) → Unfit n ≡ behind (Fit word) (plain n v)
+put_unfit word n v h = rw (le-ltb v (2 ^ n) (not_below v n h))
 
 -- a number that does not fit leaves no other trace
 unfit : (w : Written) (n u v : ℕ) → behind w (field n false u) ≡ behind w (field n false v)
@@ -47,35 +47,35 @@ module _ (w : Written) (n h v : ℕ) (p : h ≡ 2 ^ (n - 1)) (q : h + h ≡ 2 ^ 
       let m : v % (h + h) ≡ v = mod-eq_of_lt (omega arith) in
       rw (← p, ← q, lt-ltb v h b, lt-ltb v (h + h) (omega arith), m)
 
-  pub put-high : h ≤ v → 4294967295 - h < v → v < 4294967296 → 0 < h → behind w (plain n (v % (h + h))) ≡ behind w (with_sign n v)
-  put-high a b c z =
+  pub put_high_lem : h ≤ v → 4294967295 - h < v → v < 4294967296 → 0 < h → behind w (plain n (v % (h + h))) ≡ behind w (with_sign n v)
+  put_high_lem a b c z =
       let m : v % (h + h) < h + h = mod-lt v (omega arith) in
       rw (← p, ← q, le-ltb v h a, le-leb (4294967296 - h) v (omega arith), lt-ltb v 4294967296 c, lt-ltb (v % (h + h)) (h + h) m)
 
-  pub put-none : h ≤ v → v ≤ 4294967295 - h → behind w (plain n (h + h)) ≡ behind w (with_sign n v)
-  put-none a b =
+  pub put_none : h ≤ v → v ≤ 4294967295 - h → behind w (plain n (h + h)) ≡ behind w (with_sign n v)
+  put_none a b =
       rw (← p, ← q, le-ltb v h a, lt-leb (4294967296 - h) v (omega arith), le-ltb (h + h) (h + h) (omega arith)) (unfit w n (h + h) (v % (h + h)))
 
 -- a register's number, cut to 32
-pub put-narrow : (w : Written) (i : ℕ) → behind w (plain 5 (min i 32)) ≡ behind w (plain 5 i)
-put-narrow w i = go (ltb i 32) refl
+pub put_narrow : (w : Written) (i : ℕ) → behind w (plain 5 (min i 32)) ≡ behind w (plain 5 i)
+put_narrow w i = go (ltb i 32) refl
   where
     go : (b : Bool) → ltb i 32 ≡ b → behind w (plain 5 (min i 32)) ≡ behind w (plain 5 i)
     go true t = let h : i < 32 = ltb-true i 32 t in let e : min i 32 ≡ i = min-eq_left (omega arith) in rw e
     go false t = let h : 32 ≤ i = ltb-false i 32 t in let e : min i 32 ≡ 32 = min-eq_right h in rw (e, le-ltb i 32 h) (unfit w 5 32 i)
 
 -- the flag form of an operation
-pub flag-form : (o : Operation) → arithmeticOp3 o false + 16 ≡ arithmeticOp3 o true
-unfolding arithmeticOp3
-flag-form Add = refl
-flag-form And = refl
-flag-form Or = refl
-flag-form Xor = refl
-flag-form Sub = refl
-flag-form Andn = refl
-flag-form Orn = refl
-flag-form Xnor = refl
-flag-form Addx = refl
-flag-form Subx = refl
-flag-form Umul = refl
-flag-form Smul = refl
+pub flag_form : (o : Operation) → arithmetic_op3 o false + 16 ≡ arithmetic_op3 o true
+unfolding arithmetic_op3
+flag_form Add = refl
+flag_form And = refl
+flag_form Or = refl
+flag_form Xor = refl
+flag_form Sub = refl
+flag_form Andn = refl
+flag_form Orn = refl
+flag_form Xnor = refl
+flag_form Addx = refl
+flag_form Subx = refl
+flag_form Umul = refl
+flag_form Smul = refl

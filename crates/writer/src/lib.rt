@@ -3,7 +3,7 @@ ghost use Rattle.std.specs.Prelude.{◌≡◌, false, List, [], ◌∷◌, ℕ, 
 ghost use Rattle.words.specs.Conditions.{bit_of};
 ghost use Rattle.words.specs.declared.Operand.TheVariants.{Register};
 ghost use Rattle.words.specs.declared.Written.TheVariants.{Fit};
-ghost use Rattle.words.specs.Writer.{Field, plain, with_sign, behind, joined, operand, constant13, constant7, constant5, arithmeticOp3, shiftOp3, windowOp3, loadOp3, storeOp3, longWord, shiftWord, rdyWord, wryWord, trapWord, sethiWord, branchWord, call_word, written_of};
+ghost use Rattle.words.specs.Writer.{Field, plain, with_sign, behind, joined, operand, constant13, constant7, constant5, arithmetic_op3, shift_op3, window_op3, load_op3, store_op3, long_word, shift_word, rdy_word, wry_word, trap_word, sethi_word, branch_word, call_word, written_of};
 
 use words::{
     Instruction, LoadOperation, Operand, Operation, ShiftOperation, Width, WindowOperation, Written,
@@ -94,32 +94,32 @@ fn upper(op: u32, rd: u32, op3: u32, rs1: u32) -> Written
 }
 
 pub fn long_word(op: u32, rd: u32, op3: u32, rs1: u32, x: Operand) -> Written
-    ensures { result ≡ longWord op rd op3 rs1 x }
+    ensures { result ≡ long_word op rd op3 rs1 x }
 {
     put_operand13(upper(op, rd, op3, rs1), x)
 }
 
 pub fn shift_word(rd: u32, op3: u32, rs1: u32, x: Operand) -> Written
-    ensures { result ≡ shiftWord rd op3 rs1 x }
+    ensures { result ≡ shift_word rd op3 rs1 x }
 {
     put_operand5(upper(2, rd, op3, rs1), x)
 }
 
 // What they do not use is written as 0: rs1 and the second operand of a rdy, rd of a wry.
 pub fn rdy_word(rd: u32) -> Written
-    ensures { result ≡ rdyWord rd }
+    ensures { result ≡ rdy_word rd }
 {
     long_word(2, rd, 40, 0, Operand::Register(0))
 }
 
 pub fn wry_word(rs1: u32, x: Operand) -> Written
-    ensures { result ≡ wryWord rs1 x }
+    ensures { result ≡ wry_word rs1 x }
 {
     long_word(2, 0, 48, rs1, x)
 }
 
 pub fn trap_word(cond: u32, rs1: u32, x: Operand) -> Written
-    ensures { result ≡ trapWord cond rs1 x }
+    ensures { result ≡ trap_word cond rs1 x }
 {
     let w = Written::Fit(2);
     let first = put_field(put_field(w, 1, 0), 4, cond);
@@ -127,7 +127,7 @@ pub fn trap_word(cond: u32, rs1: u32, x: Operand) -> Written
 }
 
 pub fn sethi_word(rd: u32, imm: u32) -> Written
-    ensures { result ≡ sethiWord rd imm }
+    ensures { result ≡ sethi_word rd imm }
 {
     let w = Written::Fit(0);
     put_field(put_field(put_field(w, 5, rd), 3, 4), 22, imm)
@@ -143,7 +143,7 @@ pub fn one_bit(b: bool) -> u32
 }
 
 pub fn branch_word(cond: u32, annul: bool, disp: u32) -> Written
-    ensures { result ≡ branchWord cond annul disp }
+    ensures { result ≡ branch_word cond annul disp }
 {
     let w = Written::Fit(0);
     let first = put_field(put_field(w, 1, one_bit(annul)), 4, cond);
@@ -158,7 +158,7 @@ pub fn call_word(disp: u32) -> Written
 }
 
 fn plain_op3(o: Operation) -> u32
-    ensures { (result ≡ arithmeticOp3 o false) × (result < 16) }
+    ensures { (result ≡ arithmetic_op3 o false) × (result < 16) }
 {
     match o {
         Operation::Add => 0,
@@ -178,7 +178,7 @@ fn plain_op3(o: Operation) -> u32
 
 // The flag form has bit 4 of op3 set.
 pub fn arithmetic_op3(o: Operation, cc: bool) -> u32
-    ensures { (result ≡ arithmeticOp3 o cc) × (result < 64) }
+    ensures { (result ≡ arithmetic_op3 o cc) × (result < 64) }
 {
     let k = plain_op3(o);
     if cc {
@@ -188,7 +188,7 @@ pub fn arithmetic_op3(o: Operation, cc: bool) -> u32
 }
 
 pub fn shift_op3(o: ShiftOperation) -> u32
-    ensures { (result ≡ shiftOp3 o) × (result < 64) }
+    ensures { (result ≡ shift_op3 o) × (result < 64) }
 {
     match o {
         ShiftOperation::Sll => 37,
@@ -198,7 +198,7 @@ pub fn shift_op3(o: ShiftOperation) -> u32
 }
 
 pub fn window_op3(o: WindowOperation) -> u32
-    ensures { (result ≡ windowOp3 o) × (result < 64) }
+    ensures { (result ≡ window_op3 o) × (result < 64) }
 {
     match o {
         WindowOperation::Save => 60,
@@ -207,7 +207,7 @@ pub fn window_op3(o: WindowOperation) -> u32
 }
 
 pub fn load_op3(o: LoadOperation) -> u32
-    ensures { (result ≡ loadOp3 o) × (result < 64) }
+    ensures { (result ≡ load_op3 o) × (result < 64) }
 {
     match o {
         LoadOperation::Ld => 0,
@@ -219,7 +219,7 @@ pub fn load_op3(o: LoadOperation) -> u32
 }
 
 pub fn store_op3(w: Width) -> u32
-    ensures { (result ≡ storeOp3 w) × (result < 64) }
+    ensures { (result ≡ store_op3 w) × (result < 64) }
 {
     match w {
         Width::Byte => 5,

@@ -1,10 +1,10 @@
-use Rattle.words.specs.Conditions.{nzvcOf}
+use Rattle.words.specs.Conditions.{nzvc_of}
 use borrow.Author.Rules.{rules}
 use Rattle.arithmetic.proofs.flags_with.Statement.{statement}
 use Rattle.arithmetic.proofs.flags_with.Tie as tie
 
 returns : tie.Need-returns
-unfolding nzvcOf
+unfolding nzvc_of
 returns c =
     let n = c.before.before.before in
     rw (← n.before.top_bit.ensures, ← n.bit.ensures.0, ← c.before.before.bit2.ensures.0, ← c.before.bit3.ensures.0, ← c.bit4.ensures.0)

@@ -1,11 +1,11 @@
-use Rattle.words.specs.Conditions.{bit_of, nzvcOf}
+use Rattle.words.specs.Conditions.{bit_of, nzvc_of}
 use Rattle.arithmetic.specs.Arithmetic.{logic_of}
 use borrow.Author.Rules.{rules}
 use Rattle.arithmetic.proofs.logic_word.Statement.{statement}
 use Rattle.arithmetic.proofs.logic_word.Tie as tie
 
 returns : tie.Need-returns
-unfolding logic_of nzvcOf bit_of
+unfolding logic_of nzvc_of bit_of
 returns c = rw (c.before.if1.true, c.flags-with.ensures, c.before.before.put.ensures)
 
 returns-2 : tie.Need-returns-2

@@ -1,12 +1,12 @@
-use Rattle.arithmetic.proofs.Products.{high-of, low_of}
-use Rattle.arithmetic.specs.Arithmetic.{logic_of, productOf}
+use Rattle.arithmetic.proofs.Products.{high_of, low_of}
+use Rattle.arithmetic.specs.Arithmetic.{logic_of, product_of}
 use native.Mathlib.Omega.{arith}
 use borrow.Author.Rules.{rules}
 use Rattle.arithmetic.proofs.multiply_word.Statement.{statement}
 use Rattle.arithmetic.proofs.multiply_word.Tie as tie
 
 returns : tie.Need-returns
-unfolding productOf logic_of
+unfolding product_of logic_of
 returns c = let p = c.before.before.before.before.before.before.before.before.before in
     let a = p.before.before.before.before.reg.result in
     let b = p.before.before.value.result in
@@ -14,7 +14,7 @@ returns c = let p = c.before.before.before.before.before.before.before.before.be
     rw (
       ← p.before.before.before.before.reg.ensures,
       ← p.before.before.value.ensures,
-      ← high-of s a b (omega arith) (omega arith),
+      ← high_of s a b (omega arith) (omega arith),
       ← low_of s a b (omega arith) (omega arith),
       ← p.before.product.ensures,
       ← p.high_word.ensures,

@@ -1,4 +1,4 @@
-use Rattle.case_files.proofs.Areas.{get-any}
+use Rattle.case_files.proofs.Areas.{get_any}
 use borrow.Author.Rules.{rules}
 use lib.ListN.{get_or-eq_default}
 use mathlib.Core.Path.{sym}
@@ -6,7 +6,7 @@ use Rattle.case_files.proofs.byte_or.Statement.{statement}
 use Rattle.case_files.proofs.byte_or.Tie as tie
 
 returns : tie.Need-returns
-returns c = let k = c.before.before.args in get-any k.bytes.now k.i 0 k.other c.before.if1.true
+returns c = let k = c.before.before.args in get_any k.bytes.now k.i 0 k.other c.before.if1.true
 
 returns-2 : tie.Need-returns-2
 returns-2 c = let k = c.before.args in sym (get_or-eq_default k.bytes.now k.other c.if1.false)

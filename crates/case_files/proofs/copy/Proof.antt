@@ -1,4 +1,4 @@
-use Rattle.case_files.proofs.Areas.{copied_more, copied-done}
+use Rattle.case_files.proofs.Areas.{copied_more, copied_done}
 use borrow.Author.Rules.{rules}
 use lib.ListN.{length, length-set, take, drop}
 use native.Mathlib.Omega.{arith}
@@ -31,7 +31,7 @@ loop-again c = let b = c.before.before.before.loop in
 returns : tie.Need-returns invariant-loop decreases-loop
 returns c = let b = c.before.before.loop in
     let k = c.before.before.before.before.before.args in
-    b.invariant.3 ∙ copied-done b.i _ k.from.now k.to.now (c.before.least.ensures ∙ ap (λ (n : ℕ). min n (length k.from.now)) b.invariant.0) b.invariant.2 b.invariant.1 c.if1.false
+    b.invariant.3 ∙ copied_done b.i _ k.from.now k.to.now (c.before.least.ensures ∙ ap (λ (n : ℕ). min n (length k.from.now)) b.invariant.0) b.invariant.2 b.invariant.1 c.if1.false
 
 pub copy_spec : {M : Type 1} → statement M
 copy_spec =

@@ -1,4 +1,4 @@
-use Rattle.case_files.proofs.Areas.{Agree, agree-more, held-no, held_all}
+use Rattle.case_files.proofs.Areas.{Agree, agree_more, held_no, held_all}
 use borrow.Author.Rules.{rules}
 use lib.ListN.{length}
 use native.Mathlib.Omega.{arith}
@@ -19,12 +19,12 @@ loop-holds c = (omega arith, λ j h. absurd (omega arith))
 returns : tie.Need-returns invariant-loop decreases-loop
 returns c = let b = c.before.before.before.before.loop in
     let k = c.before.before.before.before.before.before.before.args in
-    held-no k.area.now k.known.now k.past b.i c.before.before.before.loop-test.true (λ e. c.if1.true (e ∙ sym c.before.byte_or.ensures))
+    held_no k.area.now k.known.now k.past b.i c.before.before.before.loop-test.true (λ e. c.if1.true (e ∙ sym c.before.byte_or.ensures))
 
 loop-again : tie.Need-loop-preserved invariant-loop decreases-loop
 loop-again c = let b = c.before.before.before.before.loop in
     let k = c.before.before.before.before.before.before.before.args in
-    (omega arith, agree-more k.area.now k.known.now k.past b.i b.invariant.1 (c.if1.false ∙ c.before.byte_or.ensures))
+    (omega arith, agree_more k.area.now k.known.now k.past b.i b.invariant.1 (c.if1.false ∙ c.before.byte_or.ensures))
 
 returns-2 : tie.Need-returns-2 invariant-loop decreases-loop
 returns-2 c = let b = c.before.loop in

@@ -1,18 +1,18 @@
-use Rattle.words.specs.Reader.{format2Of}
+use Rattle.words.specs.Reader.{format2_of}
 use Rattle.words.proofs.Strict.{beside_none}
 use borrow.Author.Rules.{rules}
 use Rattle.flows.proofs.flow2_or_y.Statement.{statement}
 use Rattle.flows.proofs.flow2_or_y.Tie as tie
 
 returns : tie.Need-returns
-unfolding format2Of
+unfolding format2_of
 returns c = λ rs1 x. rw c.before.if1.true (c.rdy-flow.ensures _)
 
 wry-flow-requires : tie.Need-wry-flow-requires
 wry-flow-requires c κs = beside_none _ _ c.before.before.requires
 
 returns-2 : tie.Need-returns-2
-unfolding format2Of
+unfolding format2_of
 returns-2 c = λ rs1 x. rw c.before.if2.true (c.wry-flow.ensures _)
 
 flow2-requires : tie.Need-flow2-requires

@@ -1,7 +1,7 @@
-use Rattle.listing.proofs.Lines.{place-turn, no-place-lines}
-use Rattle.listing.proofs.Writing.{goes_on, written-end}
+use Rattle.listing.proofs.Lines.{place_turn, no_place_lines}
+use Rattle.listing.proofs.Writing.{goes_on, written_end}
 use Rattle.listing.specs.Text.{inserted}
-use Rattle.listing.specs.Listing.{placeLines}
+use Rattle.listing.specs.Listing.{place_lines}
 use borrow.Author.Rules.{rules}
 use lib.ListN.{length}
 use native.Mathlib.Nat.{sub-zero}
@@ -14,8 +14,8 @@ use Rattle.listing.proofs.put_places.Tie as tie
 abbrev invariant-loop : tie.invariant-loop
 invariant-loop out₀ at places count k₀ i₀ out k i =
     (i ≤ count) × (length out ≡ length out₀) × (k ≤ at + 105 * i)
-    × (inserted out k (placeLines places (count - i) i) ≡ inserted out₀ at (placeLines places count 0))
-    × (k + length (placeLines places (count - i) i) ≡ at + length (placeLines places count 0))
+    × (inserted out k (place_lines places (count - i) i) ≡ inserted out₀ at (place_lines places count 0))
+    × (k + length (place_lines places (count - i) i) ≡ at + length (place_lines places count 0))
 
 abbrev decreases-loop : tie.decreases-loop
 decreases-loop out₀ at places count k₀ i₀ out k i = count - i
@@ -45,15 +45,15 @@ loop-again c = let d = c.before.before.before.before.before in
     let s = f.before.before.before.before.before in
     let w = c.before.before.put-line.ensures in
     let o : b.k ≤ length b.out = omega arith in
-    let z = place-turn s.args.places.now s.args.count b.i f.before.loop-test.true f.number.ensures d.before.before.number2.ensures d.before.number3.ensures d.number4.ensures in
-    let turn = goes_on (placeLines s.args.places.now (s.args.count - (b.i + 1)) (b.i + 1)) _ _ o w (rw z at b.invariant.3) (rw z at b.invariant.4) in
+    let z = place_turn s.args.places.now s.args.count b.i f.before.loop-test.true f.number.ensures d.before.before.number2.ensures d.before.number3.ensures d.number4.ensures in
+    let turn = goes_on (place_lines s.args.places.now (s.args.count - (b.i + 1)) (b.i + 1)) _ _ o w (rw z at b.invariant.3) (rw z at b.invariant.4) in
     (omega arith, omega arith, omega (arith, w.end, w.fits), turn.0, turn.1)
 
 returns : tie.Need-returns invariant-loop decreases-loop
 returns c = let b = c.before.loop in
     let s = c.before.before.before.before in
-    let z = no-place-lines s.args.places.now s.args.count b.i c.loop-test.false in
-    written-end _ (rw z at b.invariant.3) (rw z at b.invariant.4) (omega arith)
+    let z = no_place_lines s.args.places.now s.args.count b.i c.loop-test.false in
+    written_end _ (rw z at b.invariant.3) (rw z at b.invariant.4) (omega arith)
 
 pub put-places-spec : {M : Type 1} → statement M
 put-places-spec =

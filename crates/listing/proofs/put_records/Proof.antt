@@ -1,7 +1,7 @@
-use Rattle.listing.proofs.Lines.{record-turn, no-record-lines}
-use Rattle.listing.proofs.Writing.{goes_on, written-end}
+use Rattle.listing.proofs.Lines.{record_turn, no_record_lines}
+use Rattle.listing.proofs.Writing.{goes_on, written_end}
 use Rattle.listing.specs.Text.{inserted}
-use Rattle.listing.specs.Listing.{recordLines}
+use Rattle.listing.specs.Listing.{record_lines}
 use borrow.Author.Rules.{rules}
 use lib.ListN.{length}
 use native.Mathlib.Nat.{sub-zero}
@@ -14,8 +14,8 @@ use Rattle.listing.proofs.put_records.Tie as tie
 abbrev invariant-loop : tie.invariant-loop
 invariant-loop out₀ at records count k₀ i₀ out k i =
     (i ≤ count) × (length out ≡ length out₀) × (k ≤ at + 63 * i)
-    × (inserted out k (recordLines records (count - i) i) ≡ inserted out₀ at (recordLines records count 0))
-    × (k + length (recordLines records (count - i) i) ≡ at + length (recordLines records count 0))
+    × (inserted out k (record_lines records (count - i) i) ≡ inserted out₀ at (record_lines records count 0))
+    × (k + length (record_lines records (count - i) i) ≡ at + length (record_lines records count 0))
 
 abbrev decreases-loop : tie.decreases-loop
 decreases-loop out₀ at records count k₀ i₀ out k i = count - i
@@ -42,15 +42,15 @@ loop-again c = let d = c.before.before.before.before.before in
     let s = f.before.before.before.before.before in
     let w = c.before.before.put-line.ensures in
     let o : b.k ≤ length b.out = omega arith in
-    let z = record-turn s.args.records.now s.args.count b.i f.before.loop-test.true f.number.ensures d.before.number2.ensures d.number3.ensures in
-    let turn = goes_on (recordLines s.args.records.now (s.args.count - (b.i + 1)) (b.i + 1)) _ _ o w (rw z at b.invariant.3) (rw z at b.invariant.4) in
+    let z = record_turn s.args.records.now s.args.count b.i f.before.loop-test.true f.number.ensures d.before.number2.ensures d.number3.ensures in
+    let turn = goes_on (record_lines s.args.records.now (s.args.count - (b.i + 1)) (b.i + 1)) _ _ o w (rw z at b.invariant.3) (rw z at b.invariant.4) in
     (omega arith, omega arith, omega (arith, w.end, w.fits), turn.0, turn.1)
 
 returns : tie.Need-returns invariant-loop decreases-loop
 returns c = let b = c.before.loop in
     let s = c.before.before.before.before in
-    let z = no-record-lines s.args.records.now s.args.count b.i c.loop-test.false in
-    written-end _ (rw z at b.invariant.3) (rw z at b.invariant.4) (omega arith)
+    let z = no_record_lines s.args.records.now s.args.count b.i c.loop-test.false in
+    written_end _ (rw z at b.invariant.3) (rw z at b.invariant.4) (omega arith)
 
 pub put-records-spec : {M : Type 1} → statement M
 put-records-spec =

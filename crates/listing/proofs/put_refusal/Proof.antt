@@ -1,5 +1,5 @@
-use Rattle.listing.proofs.Writing.{written-more}
-use Rattle.listing.specs.Listing.{refusalText}
+use Rattle.listing.proofs.Writing.{written_more}
+use Rattle.listing.specs.Listing.{refusal_text}
 use borrow.Author.Rules.{rules}
 use native.Mathlib.Omega.{arith}
 use Rattle.listing.proofs.put_refusal.Statement.{statement}
@@ -9,8 +9,8 @@ put-line-requires : tie.Need-put-line-requires
 put-line-requires c κs = omega (arith, c.before.before.before.before.put-bytes.ensures.end)
 
 returns : tie.Need-returns
-unfolding refusalText
-returns c = written-more (omega arith) c.before.before.before.before.before.before.before.put-bytes.ensures c.before.before.put-line.ensures
+unfolding refusal_text
+returns c = written_more (omega arith) c.before.before.before.before.before.before.before.put-bytes.ensures c.before.before.put-line.ensures
 
 pub put-refusal-spec : {M : Type 1} → statement M
 put-refusal-spec =

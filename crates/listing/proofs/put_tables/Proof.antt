@@ -1,5 +1,5 @@
-use Rattle.listing.proofs.Lines.{written-within}
-use Rattle.listing.proofs.Writing.{written-more}
+use Rattle.listing.proofs.Lines.{written_within}
+use Rattle.listing.proofs.Writing.{written_more}
 use Rattle.listing.specs.Listing.{tables}
 use native.Mathlib.Omega.{arith}
 use borrow.Author.Rules.{rules}
@@ -9,8 +9,8 @@ use Rattle.listing.proofs.put_tables.Tie as tie
 returns : tie.Need-returns
 unfolding tables
 returns c = let b = c.before.before.before.before.before.before in
-    let w = written-more (omega arith) (written-more (omega arith) (written-more (omega arith) b.before.before.before.before.before.before.before.before.before.put-bytes.ensures b.before.before.before.before.before.put-places.ensures) b.put-bytes2.ensures) c.before.before.put-records.ensures in
-    written-within (omega (arith, w.fits)) w
+    let w = written_more (omega arith) (written_more (omega arith) (written_more (omega arith) b.before.before.before.before.before.before.before.before.before.put-bytes.ensures b.before.before.before.before.before.put-places.ensures) b.put-bytes2.ensures) c.before.before.put-records.ensures in
+    written_within (omega (arith, w.fits)) w
 
 pub put-tables-spec : {M : Type 1} → statement M
 put-tables-spec =

@@ -1,11 +1,11 @@
 use Rattle.machine.proofs.Ends.{ended}
-use Rattle.machine.specs.Ends.{isGoing}
+use Rattle.machine.specs.Ends.{is_going}
 use borrow.Author.Rules.{rules}
 use Rattle.machine.proofs.is_going.Statement.{statement}
 use Rattle.machine.proofs.is_going.Tie as tie
 
 returns : tie.Need-returns
-unfolding isGoing
+unfolding is_going
 returns c = rw c.enum_told.given.1
 
 returns-2 : tie.Need-returns-2

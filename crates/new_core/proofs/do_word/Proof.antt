@@ -1,7 +1,7 @@
 use Rattle.machine.specs.Ends.{within}
 use Rattle.effects.specs.Effect.{effect_of}
-use Rattle.model.specs.Places.{mayBeHeld}
-use Rattle.model.specs.OldCore.{transferOf}
+use Rattle.model.specs.Places.{may_be_held}
+use Rattle.model.specs.OldCore.{transfer_of}
 use Rattle.model.specs.NewCore.{fit}
 use Rattle.new_core.proofs.Records.{fits}
 use borrow.Author.Rules.{rules}
@@ -9,19 +9,19 @@ use Rattle.new_core.proofs.do_word.Statement.{statement}
 use Rattle.new_core.proofs.do_word.Tie as tie
 
 returns : tie.Need-returns
-unfolding fit transferOf
+unfolding fit transfer_of
 returns c = rw c.before.enum_told.given.1 (c.bad.ensures _ _)
 
 returns-2 : tie.Need-returns-2
-unfolding fit transferOf
+unfolding fit transfer_of
 returns-2 c = rw c.before.before.i.given.1 (c.bad2.ensures _ _)
 
 returns-3 : tie.Need-returns-3
-unfolding fit transferOf
+unfolding fit transfer_of
 returns-3 c = rw c.before.before.i2.given.1 (c.bad3.ensures _ _)
 
 returns-4 : tie.Need-returns-4
-unfolding fit transferOf mayBeHeld effect_of within
+unfolding fit transfer_of may_be_held effect_of within
 returns-4 c = rw c.before.before.i3.given.1 (c.do-branch.ensures _ _)
 
 returns-5 : tie.Need-returns-5

@@ -1,10 +1,10 @@
-use Rattle.model.specs.OldCore.{inImage}
+use Rattle.model.specs.OldCore.{in_image}
 use borrow.Author.Rules.{rules}
-use Rattle.new_core.proofs.in_image.Statement.{statement}
-use Rattle.new_core.proofs.in_image.Tie as tie
+use Rattle.new_core.proofs.address_in_image.Statement.{statement}
+use Rattle.new_core.proofs.address_in_image.Tie as tie
 
 returns : tie.Need-returns
-unfolding inImage
+unfolding in_image
 returns c = rw (← c.subtract.ensures)
 
 pub in-image-spec : {M : Type 1} → statement M

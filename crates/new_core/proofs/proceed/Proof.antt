@@ -1,16 +1,16 @@
-use Rattle.model.specs.NewCore.{newNext, does}
-use Rattle.new_core.proofs.Records.{at-hand, past-last}
+use Rattle.model.specs.NewCore.{new_next, does}
+use Rattle.new_core.proofs.Records.{at_hand, past_last}
 use borrow.Author.Rules.{rules}
 use Rattle.new_core.proofs.proceed.Statement.{statement}
 use Rattle.new_core.proofs.proceed.Tie as tie
 
 returns : tie.Need-returns
-unfolding newNext
-returns c = rw (at-hand _ _ c.before.before.before.before.before.if1.true) c.before.before.obey.ensures
+unfolding new_next
+returns c = rw (at_hand _ _ c.before.before.before.before.before.if1.true) c.before.before.obey.ensures
 
 returns-2 : tie.Need-returns-2
-unfolding newNext does
-returns-2 c = rw (past-last _ _ c.before.if1.false) (c.bad.ensures _ _)
+unfolding new_next does
+returns-2 c = rw (past_last _ _ c.before.if1.false) (c.bad.ensures _ _)
 
 pub proceed-spec : {M : Type 1} → statement M
 proceed-spec =

@@ -1,7 +1,7 @@
 use Rattle.model.proofs.Runs.{lent_back}
 use Rattle.model.specs.Run.{zeroed}
-use Rattle.model.specs.NewCore.{newNext}
-use Rattle.states.specs.NewState.{newState}
+use Rattle.model.specs.NewCore.{new_next}
+use Rattle.states.specs.NewState.{new_state}
 use lib.Seq.{length-take-le}
 use native.Mathlib.Omega.{arith}
 use mathlib.Core.Path.{sym}
@@ -16,8 +16,8 @@ returns : tie.Need-returns
 unfolding zeroed
 returns c = let ran = c.before.before in
     let k = ran.before.before.before.before.before.before.before.args in
-    lent_back (newNext k.records.now k.places.now k.base k.size k.db) k.count (newState (zeroed k.regs.now) k.c)
-    (newState ran.steps.new.1.1.1.1.1.0 ran.steps.result)
+    lent_back (new_next k.records.now k.places.now k.base k.size k.db) k.count (new_state (zeroed k.regs.now) k.c)
+    (new_state ran.steps.new.1.1.1.1.1.0 ran.steps.result)
     k.area.now
     ran.steps.new.1.1.1.1.1.1.1.0
     _

@@ -1,18 +1,18 @@
-use Rattle.model.specs.Records.{rowsIn}
+use Rattle.model.specs.Records.{rows_in}
 use Rattle.model.specs.NewCore.{seek}
-use Rattle.new_core.specs.Sought.{soughtOf}
+use Rattle.new_core.specs.Sought.{sought_of}
 use borrow.Author.Rules.{rules}
 use lib.ListN.{length, drop}
 use native.Mathlib.Omega.{arith}
 use mathlib.Core.Logic.{⊎_elim}
 use mathlib.Core.Path.{◌≡◌, refl, sym, ◌∙◌}
 use Prim.Native.Nat.{◌-◌, ◌/◌, ◌≤◌, ◌<◌}
-use Rattle.new_core.proofs.Records.{sought-here, not_plain, elsewhere, not-anywhere}
+use Rattle.new_core.proofs.Records.{sought_here, not_plain, elsewhere, not_anywhere}
 use Rattle.new_core.proofs.search.Statement.{statement}
 use Rattle.new_core.proofs.search.Tie as tie
 
 abbrev invariant-loop : tie.invariant-loop
-invariant-loop places a n i₀ i = (i ≤ length places / 16) × (seek (drop i (rowsIn places)) a.0 ≡ seek (rowsIn places) a.0)
+invariant-loop places a n i₀ i = (i ≤ length places / 16) × (seek (drop i (rows_in places)) a.0 ≡ seek (rows_in places) a.0)
 
 abbrev decreases-loop : tie.decreases-loop
 decreases-loop places a n i₀ i = length places / 16 - i
@@ -21,9 +21,9 @@ loop-holds : tie.Need-loop-init invariant-loop decreases-loop
 loop-holds c = (omega arith, refl)
 
 returns : tie.Need-returns invariant-loop decreases-loop
-unfolding soughtOf
+unfolding sought_of
 returns c = let b = c.before.before.before.before.before.before.before.loop in
-    rw c.read-number3.ensures (sym (sought-here _ _ _ (omega arith) (sym c.before.before.read-number2.ensures ∙ c.before.if2.true) (sym c.before.before.before.before.before.read_number.ensures ∙ c.before.before.before.if1.true)) ∙ b.invariant.1)
+    rw c.read-number3.ensures (sym (sought_here _ _ _ (omega arith) (sym c.before.before.read-number2.ensures ∙ c.before.if2.true) (sym c.before.before.before.before.before.read_number.ensures ∙ c.before.before.before.if1.true)) ∙ b.invariant.1)
 
 loop-again : tie.Need-loop-preserved invariant-loop decreases-loop
 loop-again c = let b = c.before.before.before.before.loop in
@@ -34,10 +34,10 @@ loop-again c = let b = c.before.before.before.before.loop in
     c.if1.branch
 
 returns-2 : tie.Need-returns-2 invariant-loop decreases-loop
-unfolding soughtOf
+unfolding sought_of
 returns-2 c = let b = c.before.loop in
     let k = c.before.before.before.args in
-    sym (not-anywhere k.places.now k.a.0 b.i (omega arith)) ∙ b.invariant.1
+    sym (not_anywhere k.places.now k.a.0 b.i (omega arith)) ∙ b.invariant.1
 
 pub search-spec : {M : Type 1} → statement M
 search-spec =

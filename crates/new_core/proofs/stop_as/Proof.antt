@@ -1,4 +1,4 @@
-use Rattle.machine.specs.Ends.{endingOf, settle}
+use Rattle.machine.specs.Ends.{ending_of, settle}
 use Rattle.model.specs.NewCore.{stops}
 use borrow.Author.Tests.{ne_eqb}
 use borrow.Author.Rules.{rules}
@@ -6,11 +6,11 @@ use Rattle.new_core.proofs.stop_as.Statement.{statement}
 use Rattle.new_core.proofs.stop_as.Tie as tie
 
 returns : tie.Need-returns
-unfolding stops settle endingOf
+unfolding stops settle ending_of
 returns c = λ rs a. rw c.before.match.keys1 (c.stop.ensures rs a)
 
 returns-2 : tie.Need-returns-2
-unfolding stops settle endingOf
+unfolding stops settle ending_of
 returns-2 c = λ rs a. rw c.before.match.keys2 (c.stop2.ensures rs a)
 
 returns-3 : tie.Need-returns-3

@@ -1,5 +1,5 @@
 use Rattle.std.proofs.Common.{◌≡◌, ◌-◌, ◌<◌, ◌≤◌, ◌++◌, length, take, drop, replicate, ◌∙◌, arith, length-set, rules}
-use Rattle.numbers.proofs.Number.{clear-more, clear_none, clear-done}
+use Rattle.numbers.proofs.Number.{clear_more, clear_none, clear_done}
 use Rattle.numbers.proofs.clear_from.Statement.{statement}
 use Rattle.numbers.proofs.clear_from.Tie as tie
 
@@ -22,11 +22,11 @@ loop-again c =
       omega arith,
       omega arith,
       simp length-set (omega arith),
-      rw b.invariant.3 (clear-more c.before.before.args.from b.i c.before.before.args.bytes.now b.invariant.0 h),
+      rw b.invariant.3 (clear_more c.before.before.args.from b.i c.before.before.args.bytes.now b.invariant.0 h),
     )
 
 returns : tie.Need-returns invariant-loop decreases-loop
-returns c = let b = c.before.loop in b.invariant.3 ∙ clear-done _ _ _ (omega arith) (omega arith)
+returns c = let b = c.before.loop in b.invariant.3 ∙ clear_done _ _ _ (omega arith) (omega arith)
 
 pub clear-from-spec : {M : Type 1} → statement M
 clear-from-spec =

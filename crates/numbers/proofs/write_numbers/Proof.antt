@@ -1,4 +1,4 @@
-use Rattle.numbers.proofs.Number.{length-put, length-bytes, put-more}
+use Rattle.numbers.proofs.Number.{length_put, length_bytes, put_more}
 use Rattle.numbers.specs.Number.{bytes_of}
 use Rattle.std.proofs.Common.{◌≡◌, ◌-◌, ◌*◌, ◌<◌, ◌≤◌, length, refl, ◌∙◌, arith, rules}
 use lib.Seq.{paste, paste-zero, take-length}
@@ -18,13 +18,13 @@ loop-again : tie.Need-loop-preserved invariant-loop decreases-loop
 loop-again c = let b = c.before.before.before.before.before.before.loop in
     let h : b.i < length c.before.before.before.before.before.before.before.before.before.args.list.now = omega arith in (
       omega arith,
-      c.before.before.write-number.ensures ∙ rw b.invariant.1 (put-more _ _ _ _ c.before.before.before.before.before.before.before.before.before.requires h),
-      rw (c.before.before.write-number.ensures, length-put) b.invariant.2,
+      c.before.before.write-number.ensures ∙ rw b.invariant.1 (put_more _ _ _ _ c.before.before.before.before.before.before.before.before.before.requires h),
+      rw (c.before.before.write-number.ensures, length_put) b.invariant.2,
     )
 
 returns : tie.Need-returns invariant-loop decreases-loop
 returns c = let b = c.before.loop in
-    let l = length-bytes c.before.before.before.before.args.list.now in
+    let l = length_bytes c.before.before.before.before.args.list.now in
     let e : b.i ≡ length c.before.before.before.before.args.list.now = omega arith in
     b.invariant.1 ∙ rw (e, ← l, take-length)
 

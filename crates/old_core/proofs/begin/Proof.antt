@@ -1,13 +1,13 @@
 use Rattle.model.specs.Run.{zeroed}
-use Rattle.machine.specs.Ends.{endingOf}
-use Rattle.model.specs.OldCore.{oldBegun}
+use Rattle.machine.specs.Ends.{ending_of}
+use Rattle.model.specs.OldCore.{old_begun}
 use Rattle.model.specs.StateBytes.{is_set}
 use borrow.Author.Rules.{rules}
 use Rattle.old_core.proofs.begin.Statement.{statement}
 use Rattle.old_core.proofs.begin.Tie as tie
 
 returns : tie.Need-returns
-unfolding oldBegun zeroed endingOf is_set
+unfolding old_begun zeroed ending_of is_set
 returns c = λ a. rw c.further.ensures
 
 pub begin-spec : {M : Type 1} → statement M

@@ -1,7 +1,7 @@
 use Rattle.model.specs.Run.{zeroed}
-use Rattle.model.specs.OldCore.{oldNext}
+use Rattle.model.specs.OldCore.{old_next}
 use Rattle.model.proofs.Runs.{lent_back}
-use Rattle.states.specs.OldState.{oldState}
+use Rattle.states.specs.OldState.{old_state}
 use lib.Seq.{length-take-le}
 use native.Mathlib.Omega.{arith}
 use mathlib.Core.Path.{sym}
@@ -16,8 +16,8 @@ returns : tie.Need-returns
 unfolding zeroed
 returns c = let ran = c.before.before in
     let k = ran.before.before.before.before.before.before.args in
-    lent_back (oldNext k.image.now k.base k.db) k.count (oldState (zeroed k.regs.now) k.c)
-    (oldState ran.steps.new.1.1.1.0 ran.steps.result)
+    lent_back (old_next k.image.now k.base k.db) k.count (old_state (zeroed k.regs.now) k.c)
+    (old_state ran.steps.new.1.1.1.0 ran.steps.result)
     k.area.now
     ran.steps.new.1.1.1.1.1.0
     _

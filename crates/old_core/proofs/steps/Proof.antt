@@ -1,7 +1,7 @@
-use Rattle.model.proofs.Runs.{run_on, run-done, run-ended, step-going}
+use Rattle.model.proofs.Runs.{run_on, run_done, run_ended, step_going}
 use Rattle.model.specs.Run.{run}
-use Rattle.model.specs.OldCore.{oldNext}
-use Rattle.states.specs.OldState.{oldState}
+use Rattle.model.specs.OldCore.{old_next}
+use Rattle.states.specs.OldState.{old_state}
 use borrow.Author.Tests.{not-true, not-false}
 use borrow.Author.Rules.{rules}
 use lib.ListN.{length}
@@ -16,7 +16,7 @@ abbrev invariant-loop : tie.invariant-loop
 invariant-loop image base db regs₀ area₀ count s₀ i₀ regs area s i =
     (i ≤ count)
     × (length area ≡ length area₀)
-    × (run (oldNext image base db) (count - i) (oldState regs s area) ≡ run (oldNext image base db) count (oldState regs₀ s₀ area₀))
+    × (run (old_next image base db) (count - i) (old_state regs s area) ≡ run (old_next image base db) count (old_state regs₀ s₀ area₀))
 
 abbrev decreases-loop : tie.decreases-loop
 decreases-loop image base db regs₀ area₀ count s₀ i₀ regs area s i = count - i
@@ -25,13 +25,13 @@ loop-holds : tie.Need-loop-init invariant-loop decreases-loop
 loop-holds c = (omega arith, refl, rw sub-zero)
 
 returns : tie.Need-returns invariant-loop decreases-loop
-returns c = run-ended _ _ _ _ _ (sym c.before.is-going.ensures ∙ not-true _ c.if1.true) c.before.before.before.loop.invariant.2
+returns c = run_ended _ _ _ _ _ (sym c.before.is-going.ensures ∙ not-true _ c.if1.true) c.before.before.before.loop.invariant.2
 
 loop-again : tie.Need-loop-preserved invariant-loop decreases-loop
-loop-again c = (omega arith, search rules, run_on _ _ _ _ _ _ (omega arith) c.before.before.before.before.before.before.before.before.loop.invariant.2 (c.before.before.pass.ensures ∙ step-going _ _ _ (sym c.before.before.before.before.before.before.is-going.ensures ∙ not-false _ c.before.before.before.before.before.if1.false)))
+loop-again c = (omega arith, search rules, run_on _ _ _ _ _ _ (omega arith) c.before.before.before.before.before.before.before.before.loop.invariant.2 (c.before.before.pass.ensures ∙ step_going _ _ _ (sym c.before.before.before.before.before.before.is-going.ensures ∙ not-false _ c.before.before.before.before.before.if1.false)))
 
 returns-2 : tie.Need-returns-2 invariant-loop decreases-loop
-returns-2 c = run-done _ _ _ _ _ (omega arith) c.before.loop.invariant.2
+returns-2 c = run_done _ _ _ _ _ (omega arith) c.before.loop.invariant.2
 
 pub steps-spec : {M : Type 1} → statement M
 steps-spec =

@@ -1,12 +1,12 @@
-use Rattle.windows.proofs.Ring.{in-zeroed}
+use Rattle.windows.proofs.Ring.{in_zeroed}
 use Rattle.model.specs.Run.{zeroed}
-use Rattle.model.specs.StateBytes.{machineIn, newIn}
+use Rattle.model.specs.StateBytes.{machine_in, new_in}
 use borrow.Author.Rules.{rules}
 use Rattle.pijorrel_new.proofs.decode.Statement.{statement}
 use Rattle.pijorrel_new.proofs.decode.Tie as tie
 
 returns : tie.Need-returns
-unfolding newIn machineIn zeroed
+unfolding new_in machine_in zeroed
 returns c = λ a. rw (
   c.end-from.ensures,
   c.before.read-number5.ensures,
@@ -15,7 +15,7 @@ returns c = λ a. rw (
   c.before.before.before.before.before.before.before.read-number2.ensures,
   c.before.before.before.before.before.before.before.before.before.read_number.ensures,
   c.before.before.before.before.before.before.before.before.before.before.before.file-in.ensures,
-  in-zeroed,
+  in_zeroed,
 )
 
 pub decode-spec : {M : Type 1} → statement M

@@ -1,10 +1,10 @@
-use Rattle.model.specs.StateBytes.{newBytes}
+use Rattle.model.specs.StateBytes.{new_bytes}
 use borrow.Author.Rules.{rules}
 use Rattle.pijorrel_new.proofs.encode.Statement.{statement}
 use Rattle.pijorrel_new.proofs.encode.Tie as tie
 
 returns : tie.Need-returns
-unfolding newBytes
+unfolding new_bytes
 returns c =
     let e = c.before.before.before.before.Numbers-of.ensures in
     (e, c.put-state.ensures.0, λ a. rw (← e) c.put-state.ensures.1)

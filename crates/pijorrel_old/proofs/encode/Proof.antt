@@ -1,10 +1,10 @@
-use Rattle.model.specs.StateBytes.{is_set, oldBytes}
+use Rattle.model.specs.StateBytes.{is_set, old_bytes}
 use borrow.Author.Rules.{rules}
 use Rattle.pijorrel_old.proofs.encode.Statement.{statement}
 use Rattle.pijorrel_old.proofs.encode.Tie as tie
 
 returns : tie.Need-returns
-unfolding oldBytes is_set
+unfolding old_bytes is_set
 returns c =
     let e = c.before.before.before.before.before.before.Numbers-of.ensures in
     (e, c.put-state.ensures.0, λ a. rw (← e, ← c.before.before.before.before.bit.ensures.0) c.put-state.ensures.1)

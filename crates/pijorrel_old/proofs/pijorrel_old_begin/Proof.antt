@@ -1,6 +1,6 @@
-use Rattle.model.specs.OldCore.{oldBegun}
-use Rattle.model.specs.StateBytes.{oldIn, oldBytes, oldBegins}
-use Rattle.pijorrel_old.proofs.States.{same-machine}
+use Rattle.model.specs.OldCore.{old_begun}
+use Rattle.model.specs.StateBytes.{old_in, old_bytes, old_begins}
+use Rattle.pijorrel_old.proofs.States.{same_machine}
 use mathlib.Core.List.{[]}
 use mathlib.Core.Path.{ap, ◌∙◌}
 use borrow.Author.Rules.{rules}
@@ -8,8 +8,8 @@ use Rattle.pijorrel_old.proofs.pijorrel_old_begin.Statement.{statement}
 use Rattle.pijorrel_old.proofs.pijorrel_old_begin.Tie as tie
 
 returns : tie.Need-returns
-unfolding oldBegins oldIn
-returns c = c.encode.ensures.2 [] ∙ ap oldBytes (c.before.before.before.begin.ensures [] ∙ ap (oldBegun _) (same-machine (c.before.before.before.before.before.decode.ensures [])))
+unfolding old_begins old_in
+returns c = c.encode.ensures.2 [] ∙ ap old_bytes (c.before.before.before.begin.ensures [] ∙ ap (old_begun _) (same_machine (c.before.before.before.before.before.decode.ensures [])))
 
 pub pijorrel-old-begin-spec : {M : Type 1} → statement M
 pijorrel-old-begin-spec =

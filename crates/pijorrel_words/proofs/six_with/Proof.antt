@@ -1,14 +1,14 @@
-use Rattle.pijorrel_words.specs.Forms.{withOperand}
+use Rattle.pijorrel_words.specs.Forms.{with_operand}
 use borrow.Author.Rules.{rules}
 use Rattle.pijorrel_words.proofs.six_with.Statement.{statement}
 use Rattle.pijorrel_words.proofs.six_with.Tie as tie
 
 returns : tie.Need-returns
-unfolding withOperand
+unfolding with_operand
 returns c = rw (c.before.before.x.given.1, c.low32.ensures)
 
 returns-2 : tie.Need-returns-2
-unfolding withOperand
+unfolding with_operand
 returns-2 c = rw c.before.x2.given.1
 
 pub six-with-spec : {M : Type 1} → statement M

@@ -1,16 +1,16 @@
 use borrow.Author.Tests.{eq-eqb, ne_eqb, lt-ltb, le-ltb}
-use Rattle.pijorrel_words.proofs.Laws.{form-2}
+use Rattle.pijorrel_words.proofs.Laws.{form_2}
 use borrow.Author.Rules.{rules}
 use Rattle.pijorrel_words.proofs.write2.Statement.{statement}
 use Rattle.pijorrel_words.proofs.write2.Tie as tie
 
 returns : tie.Need-returns
-returns c = rw (form-2 _ _ _ _, ← c.before.before.before.is-form2.ensures _ _, c.before.before.if1.true, eq-eqb _ _ c.before.if2.true) c.trap-word.ensures
+returns c = rw (form_2 _ _ _ _, ← c.before.before.before.is-form2.ensures _ _, c.before.before.if1.true, eq-eqb _ _ c.before.if2.true) c.trap-word.ensures
 
 returns-2 : tie.Need-returns-2
 returns-2 c =
     rw (
-      form-2 _ _ _ _,
+      form_2 _ _ _ _,
       ← c.before.before.before.before.before.is-form2.ensures _ _,
       c.before.before.before.before.if1.true,
       ne_eqb _ _ c.before.before.before.if2.false,
@@ -22,7 +22,7 @@ returns-3 : tie.Need-returns-3
 returns-3 c =
     let d = c.before.before in
     rw (
-      form-2 _ _ _ _,
+      form_2 _ _ _ _,
       ← d.before.before.before.before.is-form2.ensures _ _,
       d.before.before.before.if1.true,
       ne_eqb _ _ d.before.before.if2.false,
@@ -35,7 +35,7 @@ returns-4 : tie.Need-returns-4
 returns-4 c =
     let d = c.before.before.before in
     rw (
-      form-2 _ _ _ _,
+      form_2 _ _ _ _,
       ← d.before.before.before.before.is-form2.ensures _ _,
       d.before.before.before.if1.true,
       ne_eqb _ _ d.before.before.if2.false,
@@ -49,7 +49,7 @@ returns-5 : tie.Need-returns-5
 returns-5 c =
     let d = c.before.before.before in
     rw (
-      form-2 _ _ _ _,
+      form_2 _ _ _ _,
       ← d.before.before.before.before.is-form2.ensures _ _,
       d.before.before.before.if1.true,
       ne_eqb _ _ d.before.before.if2.false,
@@ -60,7 +60,7 @@ returns-5 c =
     ) c.long-word.ensures
 
 returns-6 : tie.Need-returns-6
-returns-6 c = rw (form-2 _ _ _ _, ← c.before.is-form2.ensures _ _, c.if1.false)
+returns-6 c = rw (form_2 _ _ _ _, ← c.before.is-form2.ensures _ _, c.if1.false)
 
 pub write2-spec : {M : Type 1} → statement M
 write2-spec =

@@ -3,8 +3,8 @@ use Prim.Native.Nat.{◌-◌}
 use mathlib.Core.Path.{◌≡◌, sym, ◌∙◌}
 use lib.ListN.{length, drop, length-drop}
 use lib.Seq.{length-take-le}
-use Rattle.machine.specs.Registers.{fileSize}
-use Rattle.states.proofs.Filled.{behind-count, file-read}
+use Rattle.machine.specs.Registers.{file_size}
+use Rattle.states.proofs.Filled.{behind_count, file_read}
 use borrow.Author.Rules.{rules}
 use Rattle.states.proofs.read_file.Statement.{statement}
 use Rattle.states.proofs.read_file.Tie as tie
@@ -20,9 +20,9 @@ returns c =
     let w = c.before.before.before.before.before.before.before in
     let k = w.before.before.before.before in
     let r = k.args.regs.now in
-    let t : length (drop 32 r) ≡ fileSize - 32 = length-drop 32 r ∙ omega (arith, k.requires.2) in
+    let t : length (drop 32 r) ≡ file_size - 32 = length-drop 32 r ∙ omega (arith, k.requires.2) in
     let p = rw (← slice-aggregate-read-numbers w.before) at w.read-numbers.ensures in
-    file-read _ (drop 32 r) _ k.args.behind t p _ (behind-count _ (drop 32 r) _ k.args.behind t p) _ c.before.before.read-numbers2.ensures
+    file_read _ (drop 32 r) _ k.args.behind t p _ (behind_count _ (drop 32 r) _ k.args.behind t p) _ c.before.before.read-numbers2.ensures
 
 pub read-file-spec : {M : Type 1} → statement M
 read-file-spec =

@@ -3,7 +3,7 @@ use native.Mathlib.Omega.{arith}
 use mathlib.Core.Path.{◌≡◌, refl, sym}
 use lib.ListN.{length, take, drop, length-drop}
 use lib.Seq.{length-take-le, take_all}
-use Rattle.states.proofs.Filled.{fill-state}
+use Rattle.states.proofs.Filled.{fill_state}
 use borrow.Author.Rules.{rules}
 use Rattle.states.proofs.write_state.Statement.{statement}
 use Rattle.states.proofs.write_state.Tie as tie
@@ -27,7 +27,7 @@ returns c =
     let d = length-drop 32 k.regs.now in
     let r = k.regs.now in
     let all : take (length r - 32) (drop 32 r) ≡ drop 32 r = take_all (length r - 32) (drop 32 r) (omega (arith, d)) in
-    fill-state k.bytes.now w.write-numbers.new.0 _ _ (take 32 k.regs.now) k.rest.now (drop 32 k.regs.now) _
+    fill_state k.bytes.now w.write-numbers.new.0 _ _ (take 32 k.regs.now) k.rest.now (drop 32 k.regs.now) _
     (sym (slice-aggregate-write-numbers w.before)) refl (omega (arith, n, d, w.before.before.before.before.before.before.requires)) w.write-numbers.ensures
     c.before.before.before.before.before.before.before.write-numbers2.ensures
     (rw all at c.before.before.write-numbers3.ensures)

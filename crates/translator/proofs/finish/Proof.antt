@@ -1,9 +1,9 @@
-use Rattle.model.specs.Records.{inFull}
-use Rattle.places.proofs.Rows.{length-places}
-use Rattle.places.specs.Table.{placesIn}
+use Rattle.model.specs.Records.{in_full}
+use Rattle.places.proofs.Rows.{length_places}
+use Rattle.places.specs.Table.{places_in}
 use Rattle.places.proofs.Chains.{index_same}
-use Rattle.translator.proofs.Handed.{finish-short, finish-whole}
-use Rattle.groups.proofs.Laying.{needed-le}
+use Rattle.translator.proofs.Handed.{finish_short, finish_whole}
+use Rattle.groups.proofs.Laying.{needed_le}
 use native.Mathlib.Omega.{arith}
 use mathlib.Core.Path.{refl}
 use borrow.Author.Rules.{rules}
@@ -16,11 +16,11 @@ lay-out-requires c κs = let s : tie.Start = search in (s.pre.fits, s.pre.few, s
 cast-t14 : tie.Need-overflow-cast-t14
 cast-t14 c = let at-lay-out : tie.After-lay-out = search in
     let s : tie.Start = search in
-    let ps = placesIn s.args.places.now s.args.count in
-    omega (arith, at-lay-out.lay-out.ensures.0.all, needed-le (inFull s.args.image.now s.args.base) ps, length-places s.args.places.now s.args.count, s.pre.few)
+    let ps = places_in s.args.places.now s.args.count in
+    omega (arith, at-lay-out.lay-out.ensures.0.all, needed_le (in_full s.args.image.now s.args.base) ps, length_places s.args.places.now s.args.count, s.pre.few)
 
 returns : tie.Need-returns
-returns c = let at-lay-out : tie.After-lay-out = search in finish-short _ _ _ _ (omega arith) refl _ _ _ _ _ at-lay-out.lay-out.ensures.0 c.if1.true
+returns c = let at-lay-out : tie.After-lay-out = search in finish_short _ _ _ _ (omega arith) refl _ _ _ _ _ at-lay-out.lay-out.ensures.0 c.if1.true
 
 put-groups-requires : tie.Need-put-groups-requires
 put-groups-requires c κs = let at-lay-out : tie.After-lay-out = search in
@@ -31,14 +31,14 @@ put-groups-requires c κs = let at-lay-out : tie.After-lay-out = search in
 cast-t21 : tie.Need-overflow-cast-t21
 cast-t21 c = let at-lay-out : tie.After-lay-out = search in
     let s : tie.Start = search in
-    let ps = placesIn s.args.places.now s.args.count in
-    omega (arith, at-lay-out.lay-out.ensures.0.all, needed-le (inFull s.args.image.now s.args.base) ps, length-places s.args.places.now s.args.count, s.pre.few)
+    let ps = places_in s.args.places.now s.args.count in
+    omega (arith, at-lay-out.lay-out.ensures.0.all, needed_le (in_full s.args.image.now s.args.base) ps, length_places s.args.places.now s.args.count, s.pre.few)
 
 returns-2 : tie.Need-returns-2
 returns-2 c = let at-put-groups : tie.After-put-groups = search in
     let at-else : tie.Else1 = search in
     let at-lay-out : tie.After-lay-out = search in
-    finish-whole _ _ _ _ (omega arith) (omega arith) _ _ _ _ _ at-lay-out.lay-out.ensures.0 at-else.if1.left at-put-groups.put-groups.ensures
+    finish_whole _ _ _ _ (omega arith) (omega arith) _ _ _ _ _ at-lay-out.lay-out.ensures.0 at-else.if1.left at-put-groups.put-groups.ensures
 
 pub finish_spec : {M : Type 1} → statement M
 finish_spec =

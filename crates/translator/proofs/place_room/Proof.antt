@@ -1,14 +1,14 @@
-use Rattle.model.specs.Translation.{placeRoom}
+use Rattle.model.specs.Translation.{place_room}
 use native.Mathlib.Omega.{arith}
 use Rattle.translator.proofs.place_room.Statement.{statement}
 use Rattle.translator.proofs.place_room.Tie as tie
 
 returns : tie.Need-returns
-unfolding placeRoom
+unfolding place_room
 returns c = omega arith
 
 returns-2 : tie.Need-returns-2
-unfolding placeRoom
+unfolding place_room
 returns-2 c = omega arith
 
 pub place-room-spec : {M : Type 1} → statement M

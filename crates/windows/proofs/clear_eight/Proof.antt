@@ -1,11 +1,11 @@
-use Rattle.windows.specs.Windows.{putEach}
+use Rattle.windows.specs.Windows.{put_each}
 use native.Mathlib.Nat.{add-zero}
 use borrow.Author.Rules.{rules}
 use Rattle.windows.proofs.clear_eight.Statement.{statement}
 use Rattle.windows.proofs.clear_eight.Tie as tie
 
 returns : tie.Need-returns
-unfolding putEach
+unfolding put_each
 returns c = rw add-zero
 
 pub clear-eight-spec : {M : Type 1} → statement M

@@ -1,11 +1,11 @@
-use Rattle.windows.proofs.Ring.{taken-eights}
+use Rattle.windows.proofs.Ring.{taken_eights}
 use borrow.Author.Rules.{rules}
 use Rattle.windows.proofs.take_up.Statement.{statement}
 use Rattle.windows.proofs.take_up.Tie as tie
 
 returns : tie.Need-returns
 returns c =
-    taken-eights _ _ _ _ c.before.before.before.before.before.before.before.place.ensures.0 c.before.before.before.before.place2.ensures.0 c.before.place3.ensures.0 _ _ _ _
+    taken_eights _ _ _ _ c.before.before.before.before.before.before.before.place.ensures.0 c.before.before.before.before.place2.ensures.0 c.before.place3.ensures.0 _ _ _ _
     c.before.before.before.before.before.before.copy-eight.ensures c.before.before.before.copy-eight2.ensures c.copy-eight3.ensures
 
 pub take-up-spec : {M : Type 1} → statement M

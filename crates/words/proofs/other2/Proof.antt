@@ -1,6 +1,6 @@
 use mathlib.Core.Path.{ap}
-use Rattle.words.specs.Reader.{unusedSet, strictly}
-use Rattle.words.proofs.Reader.{no-row-other}
+use Rattle.words.specs.Reader.{unused_set, strictly}
+use Rattle.words.proofs.Reader.{no_row_other}
 use borrow.Author.Rules.{rules}
 use Rattle.words.proofs.other2.Statement.{statement}
 use Rattle.words.proofs.other2.Tie as tie
@@ -33,8 +33,8 @@ returns-9 : tie.Need-returns-9
 returns-9 c = rw c.before.match.keys9 c.window2.ensures
 
 returns-10 : tie.Need-returns-10
-unfolding strictly unusedSet
-returns-10 c = ap (strictly c.before.args.word) (no-row-other _ _ _ _ _ c.match.rest)
+unfolding strictly unused_set
+returns-10 c = ap (strictly c.before.args.word) (no_row_other _ _ _ _ _ c.match.rest)
 
 pub other2-spec : {M : Type 1} → statement M
 other2-spec =

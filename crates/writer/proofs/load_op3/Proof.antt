@@ -1,27 +1,27 @@
 use native.Mathlib.Omega.{arith}
-use Rattle.words.specs.Writer.{loadOp3}
+use Rattle.words.specs.Writer.{load_op3}
 use borrow.Author.Rules.{rules}
 use Rattle.writer.proofs.load_op3.Statement.{statement}
 use Rattle.writer.proofs.load_op3.Tie as tie
 
 returns : tie.Need-returns
-unfolding loadOp3
+unfolding load_op3
 returns c = (rw c.enum_told.given.1, omega arith)
 
 returns-2 : tie.Need-returns-2
-unfolding loadOp3
+unfolding load_op3
 returns-2 c = (rw c.enum-told2.given.1, omega arith)
 
 returns-3 : tie.Need-returns-3
-unfolding loadOp3
+unfolding load_op3
 returns-3 c = (rw c.enum-told3.given.1, omega arith)
 
 returns-4 : tie.Need-returns-4
-unfolding loadOp3
+unfolding load_op3
 returns-4 c = (rw c.enum-told4.given.1, omega arith)
 
 returns-5 : tie.Need-returns-5
-unfolding loadOp3
+unfolding load_op3
 returns-5 c = (rw c.enum-told5.given.1, omega arith)
 
 pub load-op3-spec : {M : Type 1} → statement M

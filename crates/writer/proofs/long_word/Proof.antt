@@ -1,10 +1,10 @@
-use Rattle.words.specs.Writer.{longWord}
+use Rattle.words.specs.Writer.{long_word}
 use borrow.Author.Rules.{rules}
 use Rattle.writer.proofs.long_word.Statement.{statement}
 use Rattle.writer.proofs.long_word.Tie as tie
 
 returns : tie.Need-returns
-unfolding longWord
+unfolding long_word
 returns c = rw (← c.before.upper.ensures) c.put-operand13.ensures
 
 pub long-word-spec : {M : Type 1} → statement M

@@ -1,10 +1,10 @@
-use Rattle.words.specs.Writer.{rdyWord}
+use Rattle.words.specs.Writer.{rdy_word}
 use borrow.Author.Rules.{rules}
 use Rattle.writer.proofs.rdy_word.Statement.{statement}
 use Rattle.writer.proofs.rdy_word.Tie as tie
 
 returns : tie.Need-returns
-unfolding rdyWord
+unfolding rdy_word
 returns c = c.long-word.ensures
 
 pub rdy-word-spec : {M : Type 1} → statement M

@@ -1,10 +1,10 @@
-use Rattle.words.specs.Writer.{shiftWord}
+use Rattle.words.specs.Writer.{shift_word}
 use borrow.Author.Rules.{rules}
 use Rattle.writer.proofs.shift_word.Statement.{statement}
 use Rattle.writer.proofs.shift_word.Tie as tie
 
 returns : tie.Need-returns
-unfolding shiftWord
+unfolding shift_word
 returns c = rw (← c.before.upper.ensures) c.put-operand5.ensures
 
 pub shift-word-spec : {M : Type 1} → statement M

@@ -1,19 +1,19 @@
 use native.Mathlib.Omega.{arith}
-use Rattle.words.specs.Writer.{storeOp3}
+use Rattle.words.specs.Writer.{store_op3}
 use borrow.Author.Rules.{rules}
 use Rattle.writer.proofs.store_op3.Statement.{statement}
 use Rattle.writer.proofs.store_op3.Tie as tie
 
 returns : tie.Need-returns
-unfolding storeOp3
+unfolding store_op3
 returns c = (rw c.enum_told.given.1, omega arith)
 
 returns-2 : tie.Need-returns-2
-unfolding storeOp3
+unfolding store_op3
 returns-2 c = (rw c.enum-told2.given.1, omega arith)
 
 returns-3 : tie.Need-returns-3
-unfolding storeOp3
+unfolding store_op3
 returns-3 c = (rw c.enum-told3.given.1, omega arith)
 
 pub store-op3-spec : {M : Type 1} → statement M

@@ -1,15 +1,15 @@
 use native.Mathlib.Omega.{arith}
-use Rattle.words.specs.Writer.{windowOp3}
+use Rattle.words.specs.Writer.{window_op3}
 use borrow.Author.Rules.{rules}
 use Rattle.writer.proofs.window_op3.Statement.{statement}
 use Rattle.writer.proofs.window_op3.Tie as tie
 
 returns : tie.Need-returns
-unfolding windowOp3
+unfolding window_op3
 returns c = (rw c.enum_told.given.1, omega arith)
 
 returns-2 : tie.Need-returns-2
-unfolding windowOp3
+unfolding window_op3
 returns-2 c = (rw c.enum-told2.given.1, omega arith)
 
 pub window-op3-spec : {M : Type 1} → statement M

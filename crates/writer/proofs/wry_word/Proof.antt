@@ -1,10 +1,10 @@
-use Rattle.words.specs.Writer.{wryWord}
+use Rattle.words.specs.Writer.{wry_word}
 use borrow.Author.Rules.{rules}
 use Rattle.writer.proofs.wry_word.Statement.{statement}
 use Rattle.writer.proofs.wry_word.Tie as tie
 
 returns : tie.Need-returns
-unfolding wryWord
+unfolding wry_word
 returns c = c.long-word.ensures
 
 pub wry-word-spec : {M : Type 1} → statement M

@@ -1,11 +1,11 @@
 use Rattle.answer_cases.proofs.Translations.{found_back}
-use Rattle.answer_cases.specs.Translations.{backFound, backAgrees}
+use Rattle.answer_cases.specs.Translations.{back_found, back_agrees}
 use borrow.Author.Rules.{rules}
 use Rattle.answer_cases.proofs.translation.check_in.Statement.{statement}
 use Rattle.answer_cases.proofs.translation.check_in.Tie as tie
 
 returns : tie.Need-returns
-unfolding backFound backAgrees
+unfolding back_found back_agrees
 returns c =
     let b = c.before.before.before.before.before.before in
     let d = b.before.before.before.before.before.before in

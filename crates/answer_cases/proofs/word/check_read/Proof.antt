@@ -1,10 +1,10 @@
-use Rattle.answer_cases.specs.Words.{readFound}
+use Rattle.answer_cases.specs.Words.{read_found}
 use borrow.Author.Rules.{rules}
 use Rattle.answer_cases.proofs.word.check_read.Statement.{statement}
 use Rattle.answer_cases.proofs.word.check_read.Tie as tie
 
 returns : tie.Need-returns
-unfolding readFound
+unfolding read_found
 returns c = let b = c.before.before.before.before.before.before in
     rw (c.one.ensures, c.before.answers.ensures, c.before.before.before.part2.ensures, c.before.before.before.before.shows.ensures, b.part.ensures, b.before.pijorrel-read.ensures, b.before.before.before.number.ensures)
 

@@ -1,4 +1,4 @@
-use Rattle.numbers.proofs.Number.{extend-by-sum}
+use Rattle.numbers.proofs.Number.{extend_by_sum}
 use Rattle.numbers.specs.Number.{signed}
 use native.Mathlib.Omega.{arith}
 use mathlib.Core.Path.{◌∙◌}
@@ -8,7 +8,7 @@ use Rattle.effects.proofs.data_area.half_loaded.Tie as tie
 
 returns : tie.Need-returns
 unfolding signed
-returns c = rw c.before.if1.true (c.subtract.ensures ∙ extend-by-sum 32768 _ (omega arith) (omega arith))
+returns c = rw c.before.if1.true (c.subtract.ensures ∙ extend_by_sum 32768 _ (omega arith) (omega arith))
 
 returns-2 : tie.Need-returns-2
 returns-2 c = rw c.if1.false

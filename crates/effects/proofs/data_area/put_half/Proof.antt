@@ -1,4 +1,4 @@
-use Rattle.effects.specs.DataArea.{putValue}
+use Rattle.effects.specs.DataArea.{put_value}
 use lib.ListN.{length-set}
 use native.Mathlib.Omega.{arith}
 use mathlib.Core.Path.{refl}
@@ -10,7 +10,7 @@ slice-write-area-2 : tie.Need-slice-write-area-2
 slice-write-area-2 c = simp length-set (omega arith)
 
 returns : tie.Need-returns
-unfolding putValue
+unfolding put_value
 returns c = refl
 
 pub put-half-spec : {M : Type 1} → statement M

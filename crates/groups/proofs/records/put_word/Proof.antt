@@ -1,9 +1,9 @@
 use Rattle.groups.specs.Layout.{recorded}
-use Rattle.groups.proofs.Putting.{puts_one, puts-two}
+use Rattle.groups.proofs.Putting.{puts_one, puts_two}
 use Rattle.model.specs.Records.{past, group_of, numbered}
 use Rattle.places.specs.Control.{transferred}
 use Rattle.places.specs.Table.{place_of}
-use Rattle.places.proofs.Rows.{shows-held}
+use Rattle.places.proofs.Rows.{shows_held}
 use Prim.Native.Nat.{suc, ◌*◌, ◌≤◌}
 use lib.ListN.{length}
 use mathlib.Core.Path.{refl}
@@ -37,7 +37,7 @@ unfolding group_of transferred
 put-branch-requires c κs = (c.before.before.before.before.before.before.before.requires.0, rw c.before.target2.ensures (rw c.before.before.before.f2.given.1 at c.before.before.before.before.before.before.before.requires.1))
 
 first-record-requires : tie.Need-first-record-requires
-first-record-requires c κs = (c.before.before.before.before.before.requires.0, shows-held _)
+first-record-requires c κs = (c.before.before.before.before.before.requires.0, shows_held _)
 
 put-two-requires-3 : tie.Need-put-two-requires-3
 unfolding past group_of transferred
@@ -50,7 +50,7 @@ returns c = rw c.before.before.before.before.enum_told.given.1 (puts_one _ _ _ _
 
 returns-2 : tie.Need-returns-2
 unfolding group_of transferred numbered recorded
-returns-2 c = rw c.before.before.before.before.before.enum-told2.given.1 (puts-two _ _ _ _ _ _ c.before.before.put_two.ensures refl (rw c.before.before.before.before.first-of-plain.ensures))
+returns-2 c = rw c.before.before.before.before.before.enum-told2.given.1 (puts_two _ _ _ _ _ _ c.before.before.put_two.ensures refl (rw c.before.before.before.before.first-of-plain.ensures))
 
 returns-3 : tie.Need-returns-3
 unfolding group_of transferred numbered recorded
@@ -58,7 +58,7 @@ returns-3 c = rw c.before.before.before.before.enum-told3.given.1 (puts_one _ _ 
 
 returns-4 : tie.Need-returns-4
 unfolding group_of transferred numbered recorded
-returns-4 c = rw c.before.before.before.before.before.before.before.f.given.1 (puts-two _ _ _ _ _ _ c.before.before.put-two2.ensures refl (rw (c.before.before.before.before.first-of-pair.ensures, c.before.before.before.before.before.target.ensures)))
+returns-4 c = rw c.before.before.before.before.before.before.before.f.given.1 (puts_two _ _ _ _ _ _ c.before.before.put-two2.ensures refl (rw (c.before.before.before.before.first-of-pair.ensures, c.before.before.before.before.before.target.ensures)))
 
 returns-5 : tie.Need-returns-5
 unfolding group_of transferred
@@ -66,7 +66,7 @@ returns-5 c = rw (c.before.before.before.before.before.before.f2.given.1, ← c.
 
 returns-6 : tie.Need-returns-6
 unfolding group_of transferred numbered recorded place_of
-returns-6 c = rw c.before.before.before.before.before.before.f3.given.1 (puts-two _ _ _ _ _ _ c.before.before.put-two3.ensures refl (rw c.before.before.before.before.first-record.ensures))
+returns-6 c = rw c.before.before.before.before.before.before.f3.given.1 (puts_two _ _ _ _ _ _ c.before.before.put-two3.ensures refl (rw c.before.before.before.before.first-record.ensures))
 
 pub put-word-spec : {M : Type 1} → statement M
 put-word-spec =

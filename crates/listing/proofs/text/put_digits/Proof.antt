@@ -1,4 +1,4 @@
-use Rattle.listing.proofs.Decimal.{left_one, left_less, digit-put, digits-done}
+use Rattle.listing.proofs.Decimal.{left_one, left_less, digit_put, digits_done}
 use Rattle.listing.specs.Text.{decimal}
 use lib.ListN.{length, drop, length-set, drop_of_length-le}
 use native.Mathlib.Omega.{arith}
@@ -39,7 +39,7 @@ loop-again c = let b = c.before.before.loop in
       omega arith,
       simp length-set b.invariant.1,
       left_less b.i b.rest p b.invariant.2,
-      rw e (digit-put b.text b.i b.rest c.before.before.before.before.args.v c.digit.result h c.digit.ensures c.before.loop-test.true b.invariant.3),
+      rw e (digit_put b.text b.i b.rest c.before.before.before.before.args.v c.digit.result h c.digit.ensures c.before.loop-test.true b.invariant.3),
     )
 
 digit-requires-2 : tie.Need-digit-requires-2 invariant-loop decreases-loop
@@ -55,7 +55,7 @@ returns : tie.Need-returns invariant-loop decreases-loop
 returns c = let b = c.before.before.loop in
     let h : b.i < length b.text = omega arith in
     let l : b.rest < 10 = omega arith in
-    (b.invariant.0, digits-done b.text b.i b.rest c.before.before.before.before.args.v c.digit2.result h c.digit2.ensures l b.invariant.3)
+    (b.invariant.0, digits_done b.text b.i b.rest c.before.before.before.before.args.v c.digit2.result h c.digit2.ensures l b.invariant.3)
 
 pub put-digits-spec : {M : Type 1} → statement M
 put-digits-spec =

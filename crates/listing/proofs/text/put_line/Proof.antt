@@ -1,5 +1,5 @@
-use Rattle.listing.proofs.Lines.{line-goes, line-end}
-use Rattle.listing.proofs.Writing.{written-end}
+use Rattle.listing.proofs.Lines.{line_goes, line_end}
+use Rattle.listing.proofs.Writing.{written_end}
 use Rattle.listing.specs.Text.{line_of, inserted}
 use borrow.Author.Rules.{rules}
 use lib.ListN.{length, drop, length-set}
@@ -29,14 +29,14 @@ loop-again c = let d = c.before.before.before.before.before.before in
     let s = d.before.before.before.before in
     let w = c.before.before.before.put-number.ensures in
     let o : b.k ≤ length b.out = omega arith in
-    let turn = line-goes s.args.list.now b.j d.loop-test.true o (omega (arith, w.end, w.fits)) w c.separator.ensures b.invariant.3 b.invariant.4 in
+    let turn = line_goes s.args.list.now b.j d.loop-test.true o (omega (arith, w.end, w.fits)) w c.separator.ensures b.invariant.3 b.invariant.4 in
     (omega arith, simp length-set (omega arith), omega (arith, w.end, w.fits), turn.0, turn.1)
 
 returns : tie.Need-returns invariant-loop decreases-loop
 returns c = let b = c.before.loop in
     let s = c.before.before.before.before in
-    let z = line-end s.args.list.now b.j c.loop-test.false in
-    written-end _ (rw z at b.invariant.3) (rw z at b.invariant.4) (omega arith)
+    let z = line_end s.args.list.now b.j c.loop-test.false in
+    written_end _ (rw z at b.invariant.3) (rw z at b.invariant.4) (omega arith)
 
 pub put-line-spec : {M : Type 1} → statement M
 put-line-spec =

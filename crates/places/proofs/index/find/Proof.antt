@@ -1,5 +1,5 @@
 use Rattle.places.specs.Table.{place_of}
-use Rattle.places.proofs.Chains.{hash-lt, hash-of, Seeking, seeking-start, seeking-next, seeking-less, seeking-hit, seeking-end}
+use Rattle.places.proofs.Chains.{hash_lt, hash_of_lem, Seeking, seeking_start, seeking_next, seeking_less, seeking_hit, seeking_end}
 use native.Mathlib.Omega.{arith}
 use mathlib.Core.Path.{sym, ◌∙◌}
 use borrow.Author.Rules.{rules}
@@ -13,22 +13,22 @@ abbrev decreases-loop : tie.decreases-loop
 decreases-loop places heads links count p n kind j₀ j = j
 
 mul-j : tie.Need-overflow-mul-j invariant-loop decreases-loop
-mul-j c = omega (arith, c.hash.ensures, hash-lt c.before.before.args.p.0 c.before.before.args.n.0)
+mul-j c = omega (arith, c.hash.ensures, hash_lt c.before.before.args.p.0 c.before.before.args.n.0)
 
 element-copy-out-j : tie.Need-element-copy-out-j invariant-loop decreases-loop
-element-copy-out-j c = omega (arith, c.hash.ensures, hash-lt c.before.before.args.p.0 c.before.before.args.n.0)
+element-copy-out-j c = omega (arith, c.hash.ensures, hash_lt c.before.before.args.p.0 c.before.before.args.n.0)
 
 cast-j : tie.Need-overflow-cast-j invariant-loop decreases-loop
-cast-j c = let s = seeking-start _ _ _ _ _ c.before.before.before.requires.0.index _ (c.before.hash.ensures ∙ hash-of _ _ _ c.before.before.before.requires.1) in omega (arith, s.0)
+cast-j c = let s = seeking_start _ _ _ _ _ c.before.before.before.requires.0.index _ (c.before.hash.ensures ∙ hash_of_lem _ _ _ c.before.before.before.requires.1) in omega (arith, s.0)
 
 loop-holds : tie.Need-loop-init invariant-loop decreases-loop
-loop-holds c = seeking-start _ _ _ _ _ c.before.before.before.requires.0.index _ (c.before.hash.ensures ∙ hash-of _ _ _ c.before.before.before.requires.1)
+loop-holds c = seeking_start _ _ _ _ _ c.before.before.before.requires.0.index _ (c.before.hash.ensures ∙ hash_of_lem _ _ _ c.before.before.before.requires.1)
 
 is-place-requires : tie.Need-is-place-requires invariant-loop decreases-loop
 is-place-requires c κs = (omega arith, c.before.before.before.before.before.requires.1, c.before.before.before.before.before.requires.0.index.shows _ (omega arith))
 
 returns : tie.Need-returns invariant-loop decreases-loop
-returns c = seeking-hit _ _ _ _ _ c.before.before.before.before.before.before.before.requires.0.index _ c.before.before.before.loop.invariant c.before.before.loop-test.true (sym c.before.is-place.ensures ∙ c.if1.true)
+returns c = seeking_hit _ _ _ _ _ c.before.before.before.before.before.before.before.requires.0.index _ c.before.before.before.loop.invariant c.before.before.loop-test.true (sym c.before.is-place.ensures ∙ c.if1.true)
 
 mul-j-2 : tie.Need-overflow-mul-j-2 invariant-loop decreases-loop
 mul-j-2 c = omega arith
@@ -37,16 +37,16 @@ element-copy-out-j-2 : tie.Need-element-copy-out-j-2 invariant-loop decreases-lo
 element-copy-out-j-2 c = omega arith
 
 cast-j-2 : tie.Need-overflow-cast-j-2 invariant-loop decreases-loop
-cast-j-2 c = omega (arith, seeking-less _ _ _ _ _ c.before.before.before.before.before.before.before.before.requires.0.index _ c.before.before.before.before.loop.invariant c.before.before.before.loop-test.true)
+cast-j-2 c = omega (arith, seeking_less _ _ _ _ _ c.before.before.before.before.before.before.before.before.requires.0.index _ c.before.before.before.before.loop.invariant c.before.before.before.loop-test.true)
 
 loop-less : tie.Need-loop-smaller invariant-loop decreases-loop
-loop-less c = seeking-less _ _ _ _ _ c.before.before.before.before.before.before.before.before.requires.0.index _ c.before.before.before.before.loop.invariant c.before.before.before.loop-test.true
+loop-less c = seeking_less _ _ _ _ _ c.before.before.before.before.before.before.before.before.requires.0.index _ c.before.before.before.before.loop.invariant c.before.before.before.loop-test.true
 
 loop-again : tie.Need-loop-preserved invariant-loop decreases-loop
-loop-again c = seeking-next _ _ _ _ _ c.before.before.before.before.before.before.before.before.requires.0.index _ c.before.before.before.before.loop.invariant c.before.before.before.loop-test.true (sym c.before.before.is-place.ensures ∙ c.before.if1.false)
+loop-again c = seeking_next _ _ _ _ _ c.before.before.before.before.before.before.before.before.requires.0.index _ c.before.before.before.before.loop.invariant c.before.before.before.loop-test.true (sym c.before.before.is-place.ensures ∙ c.before.if1.false)
 
 returns-2 : tie.Need-returns-2 invariant-loop decreases-loop
-returns-2 c = seeking-end _ _ _ _ c.before.loop.invariant c.loop-test.false
+returns-2 c = seeking_end _ _ _ _ c.before.loop.invariant c.loop-test.false
 
 pub find_spec : {M : Type 1} → statement M
 find_spec =

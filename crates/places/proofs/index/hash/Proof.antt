@@ -1,11 +1,11 @@
-use Rattle.places.specs.Index.{hashOf}
+use Rattle.places.specs.Index.{hash_of}
 use mathlib.Core.Path.{refl}
 use borrow.Author.Rules.{rules}
 use Rattle.places.proofs.index.hash.Statement.{statement}
 use Rattle.places.proofs.index.hash.Tie as tie
 
 returns : tie.Need-returns
-unfolding hashOf
+unfolding hash_of
 returns c = refl
 
 pub hash-spec : {M : Type 1} → statement M

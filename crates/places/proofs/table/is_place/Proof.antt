@@ -1,5 +1,5 @@
 use Rattle.places.specs.Table.{place_in}
-use Rattle.places.proofs.Rows.{other-address, other-next, by_kind}
+use Rattle.places.proofs.Rows.{other_address, other_next, by_kind}
 use mathlib.Core.Path.{sym, ◌∙◌}
 use borrow.Author.Rules.{rules}
 use Rattle.places.proofs.table.is_place.Statement.{statement}
@@ -7,11 +7,11 @@ use Rattle.places.proofs.table.is_place.Tie as tie
 
 returns : tie.Need-returns
 unfolding place_in
-returns c = sym (other-address _ _ _ _ _ _ (λ e. c.if1.true (c.before.read_number.ensures ∙ e)))
+returns c = sym (other_address _ _ _ _ _ _ (λ e. c.if1.true (c.before.read_number.ensures ∙ e)))
 
 returns-2 : tie.Need-returns-2
 unfolding place_in
-returns-2 c = sym (other-next _ _ _ _ _ _ c.before.before.before.before.before.requires.2 c.before.before.before.before.before.requires.1 (λ e. c.if2.true (c.before.read-number2.ensures ∙ e)))
+returns-2 c = sym (other_next _ _ _ _ _ _ c.before.before.before.before.before.requires.2 c.before.before.before.before.before.requires.1 (λ e. c.if2.true (c.before.read-number2.ensures ∙ e)))
 
 returns-3 : tie.Need-returns-3
 unfolding place_in

@@ -1,10 +1,10 @@
-use Rattle.places.specs.Table.{putPlace}
+use Rattle.places.specs.Table.{put_place}
 use borrow.Author.Rules.{rules}
 use Rattle.places.proofs.table.write_place.Statement.{statement}
 use Rattle.places.proofs.table.write_place.Tie as tie
 
 returns : tie.Need-returns
-unfolding putPlace
+unfolding put_place
 returns c = let b = c.before.before.before.before.before.before in
     rw (c.before.before.write-number3.ensures, b.write-number2.ensures, b.before.before.before.before.write-number.ensures)
 

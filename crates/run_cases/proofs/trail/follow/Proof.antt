@@ -1,4 +1,4 @@
-use Rattle.run_cases.proofs.Trails.{follow-on, follow-no, follow-end}
+use Rattle.run_cases.proofs.Trails.{follow_on, follow_no, follow_end}
 use Rattle.run_cases.specs.Trails.{followed}
 use native.Mathlib.Nat.{sub-zero}
 use native.Mathlib.Omega.{arith}
@@ -20,14 +20,14 @@ loop-holds c = (omega arith, omega arith, rw (sub-zero c.before.before.before.ar
 
 returns : tie.Need-returns invariant-loop decreases-loop
 returns c = let b = c.before.before.before.before.before.before in
-    follow-no _ _ _ _ _ _ _ _ _ b.part.ensures b.before.loop-test.true c.before.before.before.pass.ensures c.if1.true b.before.before.loop.invariant.2
+    follow_no _ _ _ _ _ _ _ _ _ b.part.ensures b.before.loop-test.true c.before.before.before.pass.ensures c.if1.true b.before.before.loop.invariant.2
 
 loop-again : tie.Need-loop-preserved invariant-loop decreases-loop
 loop-again c = let b = c.before.before.before.before.before.before in
-    (search rules, omega arith, follow-on _ _ _ _ _ _ _ _ _ b.part.ensures b.before.loop-test.true c.before.before.before.pass.ensures c.if1.false b.before.before.loop.invariant.2)
+    (search rules, omega arith, follow_on _ _ _ _ _ _ _ _ _ b.part.ensures b.before.loop-test.true c.before.before.before.pass.ensures c.if1.false b.before.before.loop.invariant.2)
 
 returns-2 : tie.Need-returns-2 invariant-loop decreases-loop
-returns-2 c = follow-end _ _ _ _ _ _ _ _ c.before.loop.invariant.1 c.loop-test.false c.before.loop.invariant.2
+returns-2 c = follow_end _ _ _ _ _ _ _ _ c.before.loop.invariant.1 c.loop-test.false c.before.loop.invariant.2
 
 pub follow-spec : {M : Type 1} → statement M
 follow-spec =

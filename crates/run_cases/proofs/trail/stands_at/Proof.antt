@@ -1,11 +1,11 @@
 use Rattle.case_files.proofs.Areas.{is_same}
-use Rattle.run_cases.specs.Trails.{standsAt}
+use Rattle.run_cases.specs.Trails.{stands_at}
 use borrow.Author.Rules.{rules}
 use Rattle.run_cases.proofs.trail.stands_at.Statement.{statement}
 use Rattle.run_cases.proofs.trail.stands_at.Tie as tie
 
 returns : tie.Need-returns
-unfolding standsAt
+unfolding stands_at
 returns c =
     let n = c.before.before.before in
     rw (

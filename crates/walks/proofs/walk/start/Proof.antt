@@ -1,8 +1,8 @@
-use Rattle.numbers.specs.Number.{numbersOf}
+use Rattle.numbers.specs.Number.{numbers_of}
 use Rattle.model.specs.Walk.{grow}
 use Rattle.model.specs.Places.{plains}
-use Rattle.walks.proofs.Walking.{ready-places, ended-forbidden, ended-full, still, start-turn, start-end, start_none, grown-places, grown-forbidden, grown-full}
-use Rattle.places.specs.Table.{placesIn}
+use Rattle.walks.proofs.Walking.{ready_places, ended_forbidden, ended_full, still, start_turn, start_end, start_none, grown_places, grown_forbidden, grown_full}
+use Rattle.places.specs.Table.{places_in}
 use Rattle.places.specs.Index.{Ready}
 use borrow.Author.Rules.{rules}
 use lib.ListN.{length, drop}
@@ -16,7 +16,7 @@ use Rattle.walks.proofs.walk.start.Tie as tie
 abbrev invariant-loop : tie.invariant-loop
 invariant-loop entries k places₀ heads₀ links₀ room n₀ j₀ places heads links n j =
     (length places ≡ length places₀)
-    × (grow room (placesIn places n) (plains (drop j (numbersOf entries k))) ≡ grow room [] (plains (numbersOf entries k)))
+    × (grow room (places_in places n) (plains (drop j (numbers_of entries k))) ≡ grow room [] (plains (numbers_of entries k)))
     × Ready room places n heads links
 
 abbrev decreases-loop : tie.decreases-loop
@@ -33,11 +33,11 @@ add-plain-requires c κs = c.before.before.before.before.before.loop.invariant.2
 
 returns : tie.Need-returns invariant-loop decreases-loop
 returns c = let b = c.before.before.before.before.before.before.before.before.before in
-    ended-forbidden _ _ _ (sym (grown-forbidden _ _ c.before.w2.given.1) ∙ start-turn _ _ _ _ _ _ _ _ _ b.before.loop-test.true b.read_number.ensures c.before.before.before.before.before.add-plain.ensures.reads ∙ b.before.before.loop.invariant.1)
+    ended_forbidden _ _ _ (sym (grown_forbidden _ _ c.before.w2.given.1) ∙ start_turn _ _ _ _ _ _ _ _ _ b.before.loop-test.true b.read_number.ensures c.before.before.before.before.before.add-plain.ensures.reads ∙ b.before.before.loop.invariant.1)
 
 returns-2 : tie.Need-returns-2 invariant-loop decreases-loop
 returns-2 c = let b = c.before.before.before.before.before.before.before.before.before in
-    ended-full _ _ _ (sym (grown-full _ _ c.before.w3.given.1) ∙ start-turn _ _ _ _ _ _ _ _ _ b.before.loop-test.true b.read_number.ensures c.before.before.before.before.before.add-plain.ensures.reads ∙ b.before.before.loop.invariant.1)
+    ended_full _ _ _ (sym (grown_full _ _ c.before.w3.given.1) ∙ start_turn _ _ _ _ _ _ _ _ _ b.before.loop-test.true b.read_number.ensures c.before.before.before.before.before.add-plain.ensures.reads ∙ b.before.before.loop.invariant.1)
 
 add-j : tie.Need-overflow-add-j invariant-loop decreases-loop
 add-j c = omega arith
@@ -50,12 +50,12 @@ loop-again c = let b = c.before.before.before.before.before.before.before.before
     let e = c.before.w.given.1 in
     let g = c.before.before.before.before.before.add-plain.ensures in (
       omega arith,
-      sym (grown-places _ _ e) ∙ start-turn _ _ _ _ _ _ _ _ _ b.before.loop-test.true b.read_number.ensures g.reads ∙ b.before.before.loop.invariant.1,
-      ready-places e g.ready,
+      sym (grown_places _ _ e) ∙ start_turn _ _ _ _ _ _ _ _ _ b.before.loop-test.true b.read_number.ensures g.reads ∙ b.before.before.loop.invariant.1,
+      ready_places e g.ready,
     )
 
 returns-3 : tie.Need-returns-3 invariant-loop decreases-loop
-returns-3 c = still (start-end _ _ _ _ _ _ c.loop-test.false ∙ c.before.loop.invariant.1) c.before.loop.invariant.2
+returns-3 c = still (start_end _ _ _ _ _ _ c.loop-test.false ∙ c.before.loop.invariant.1) c.before.loop.invariant.2
 
 pub start_spec : {M : Type 1} → statement M
 start_spec =

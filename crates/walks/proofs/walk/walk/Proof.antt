@@ -1,6 +1,6 @@
 use Rattle.model.specs.Walk.{walk}
-use Rattle.walks.proofs.Walking.{ready-places, ended-forbidden, ended-full, still, grown-places, grown-forbidden, grown-full, walk-on, walk_end}
-use Rattle.places.specs.Table.{placesIn}
+use Rattle.walks.proofs.Walking.{ready_places, ended_forbidden, ended_full, still, grown_places, grown_forbidden, grown_full, walk_on, walk_end}
+use Rattle.places.specs.Table.{places_in}
 use Rattle.places.specs.Index.{Ready}
 use borrow.Author.Rules.{rules}
 use lib.ListN.{length}
@@ -14,7 +14,7 @@ use Rattle.walks.proofs.walk.walk.Tie as tie
 abbrev invariant-loop : tie.invariant-loop
 invariant-loop image base places₀ heads₀ links₀ count room n₀ i₀ places heads links n i =
     (i ≤ room) × (length places ≡ length places₀)
-    × (walk image base (suc room - i) room i (placesIn places n) ≡ walk image base (suc room) room 0 (placesIn places₀ count))
+    × (walk image base (suc room - i) room i (places_in places n) ≡ walk image base (suc room) room 0 (places_in places₀ count))
     × Ready room places n heads links
 
 abbrev decreases-loop : tie.decreases-loop
@@ -29,12 +29,12 @@ handle-requires c κs = (c.before.before.before.loop-test.true, c.before.before.
 returns : tie.Need-returns invariant-loop decreases-loop
 returns c = let d = c.before.before.before.before.before in
     let b = d.before.before.before.before.before.loop in
-    ended-forbidden _ _ _ (sym (grown-forbidden _ _ c.before.w2.given.1) ∙ walk-on _ _ _ _ _ _ _ _ d.before.before.before.before.loop-test.true b.invariant.3.within d.handle.ensures.reads ∙ b.invariant.2)
+    ended_forbidden _ _ _ (sym (grown_forbidden _ _ c.before.w2.given.1) ∙ walk_on _ _ _ _ _ _ _ _ d.before.before.before.before.loop-test.true b.invariant.3.within d.handle.ensures.reads ∙ b.invariant.2)
 
 returns-2 : tie.Need-returns-2 invariant-loop decreases-loop
 returns-2 c = let d = c.before.before.before.before.before in
     let b = d.before.before.before.before.before.loop in
-    ended-full _ _ _ (sym (grown-full _ _ c.before.w3.given.1) ∙ walk-on _ _ _ _ _ _ _ _ d.before.before.before.before.loop-test.true b.invariant.3.within d.handle.ensures.reads ∙ b.invariant.2)
+    ended_full _ _ _ (sym (grown_full _ _ c.before.w3.given.1) ∙ walk_on _ _ _ _ _ _ _ _ d.before.before.before.before.loop-test.true b.invariant.3.within d.handle.ensures.reads ∙ b.invariant.2)
 
 add-i : tie.Need-overflow-add-i invariant-loop decreases-loop
 add-i c = omega arith
@@ -49,8 +49,8 @@ loop-again c = let d = c.before.before.before.before.before in
     let g = d.handle.ensures in (
       omega arith,
       omega arith,
-      sym (grown-places _ _ e) ∙ walk-on _ _ _ _ _ _ _ _ d.before.before.before.before.loop-test.true b.invariant.3.within g.reads ∙ b.invariant.2,
-      ready-places e g.ready,
+      sym (grown_places _ _ e) ∙ walk_on _ _ _ _ _ _ _ _ d.before.before.before.before.loop-test.true b.invariant.3.within g.reads ∙ b.invariant.2,
+      ready_places e g.ready,
     )
 
 returns-3 : tie.Need-returns-3 invariant-loop decreases-loop

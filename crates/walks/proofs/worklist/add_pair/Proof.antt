@@ -1,14 +1,14 @@
-use Rattle.places.proofs.Rows.{place-pair, shows-pair}
-use Rattle.walks.proofs.Walking.{known-place}
+use Rattle.places.proofs.Rows.{place_pair, shows_pair}
+use Rattle.walks.proofs.Walking.{known_place}
 use borrow.Author.Rules.{rules}
 use Rattle.walks.proofs.worklist.add_pair.Statement.{statement}
 use Rattle.walks.proofs.worklist.add_pair.Tie as tie
 
 add-requires : tie.Need-add-requires
-add-requires c κs = (c.before.before.before.before.before.requires, shows-pair _ _ c.pair-kind.ensures)
+add-requires c κs = (c.before.before.before.before.before.requires, shows_pair _ _ c.pair-kind.ensures)
 
 returns : tie.Need-returns
-returns c = known-place _ (place-pair _ _ c.before.before.before.before.pair-kind.ensures) c.counted.ensures c.before.before.before.add.ensures
+returns c = known_place _ (place_pair _ _ c.before.before.before.before.pair-kind.ensures) c.counted.ensures c.before.before.before.add.ensures
 
 pub add-pair-spec : {M : Type 1} → statement M
 add-pair-spec =
