@@ -1,4 +1,6 @@
 // Numbers of 32 bits, and numbers of four bytes, big-endian, in byte areas that the caller lends.
+#![tactic(auto)]
+
 ghost use Rattle.std.specs.Prelude.{◌≡◌, ◌+◌, ◌*◌, ◌/◌, ◌%◌, ◌<◌, ◌≤◌, ◌++◌, length, take, drop};
 ghost use Rattle.numbers.specs.Number.{plus, minus, number_at, put_number, numbers_of, bytes_of, zero_from};
 
