@@ -12,7 +12,7 @@ use Rattle.numbers.specs.Choice.{pick}
 use Rattle.numbers.specs.Number.{plus, signed}
 use Rattle.words.specs.declared.Written.TheVariants.{Fit, Unfit}
 use Rattle.words.specs.Reader.{bits}
-use Rattle.words.specs.Writer.{Field, plain, with_sign, behind, joined}
+use Rattle.words.specs.Writer.{Field, plain, with_sign, joined}
 
 abbrev pub total : List Field → ℕ
 total [] = 0

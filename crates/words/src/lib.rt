@@ -1,4 +1,6 @@
 // SPARC V8 instruction words: the fields cut from a word, the instruction that it reads as, and the conditions.
+#![tactic(auto)]
+
 ghost use Rattle.std.specs.Prelude.{◌≡◌, ◌||◌, ◌<◌};
 ghost use Rattle.numbers.specs.Choice.{find};
 ghost use Rattle.numbers.specs.Number.{signed};

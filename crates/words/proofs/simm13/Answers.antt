@@ -1,0 +1,11 @@
+use native.Mathlib.Omega.{arith}
+use mathlib.Core.Path.{◌∙◌, refl}
+use lib.Bits.{mask_lt}
+use Rattle.words.proofs.Reader.{low_bits, extended}
+use Rattle.words.proofs.simm13.Goals as goal
+
+pub overflow_add-k : goal.overflow_add-k
+overflow_add-k c = record { fits = omega (arith, mask_lt c.args.word 13) }
+
+pub returns : goal.returns
+returns c = c.subtract.ensures ∙ extended 4096 13 _ _ (low_bits _ 13) refl refl (omega arith)
