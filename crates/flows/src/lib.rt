@@ -1,4 +1,6 @@
 // What a word does to control, without its operands.
+#![tactic(auto)]
+
 ghost use Rattle.std.specs.Prelude.{◌≡◌, false, ℕ};
 ghost use Rattle.numbers.specs.Choice.{find};
 ghost use Rattle.words.specs.declared.Operand.{Operand};

@@ -1,4 +1,6 @@
 // What both cores share: the register file, flags, the two counters, and how a run ended.
+#![tactic(auto)]
+
 ghost use Rattle.std.specs.Prelude.{◌≡◌, ◌<◌};
 ghost use Rattle.numbers.specs.Number.{plus};
 ghost use Rattle.words.specs.Conditions.{bit_of};
