@@ -14,7 +14,7 @@ const TABLE: usize = 131104;
 const LIST: usize = 196608;
 
 // Where the parts of a case start, and how many bytes its image (extent), its entries (size), its places (rows) and its records (bulk) have.
-#[derive(Drop)]
+#[derive(Clone, Copy)]
 struct Parts {
     image: usize,
     extent: usize,

@@ -1,4 +1,6 @@
 // Arithmetic, logic, products and shifts, with the flags that their flag forms set.
+#![tactic(auto)]
+
 ghost use Rattle.std.specs.Prelude.{◌≡◌, ◌-◌, ◌*◌, ◌/◌, ◌%◌, ◌&&◌, eqb};
 ghost use Rattle.numbers.specs.Choice.{pick};
 ghost use Rattle.words.specs.Conditions.{nzvc_of};

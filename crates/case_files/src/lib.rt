@@ -6,7 +6,7 @@ use states::OLD_STATE;
 
 // What is found of a case: where the next one starts, how many of its entries agree before one that does not, and whether all agrees,
 // with what is no entry, as the data after the last.
-#[derive(Drop)]
+#[derive(Clone, Copy)]
 pub struct Found {
     pub next: usize,
     pub entries: u32,
@@ -25,7 +25,7 @@ pub fn one(next: usize, agrees: bool) -> Found
 }
 
 // Where the parts of a case start, and how many bytes its image (extent) and its data (size) have.
-#[derive(Drop)]
+#[derive(Clone, Copy)]
 pub struct Parts {
     pub image: usize,
     pub extent: usize,

@@ -10,7 +10,7 @@ use libc::STDOUT_FILENO;
 const LARGEST: usize = 1048576;
 
 // What a core's cases are.
-#[derive(Drop)]
+#[derive(Clone, Copy)]
 enum Core {
     Old,
     New,
@@ -18,7 +18,7 @@ enum Core {
 }
 
 // What the cases of a file are.
-#[derive(Drop)]
+#[derive(Clone, Copy)]
 enum Kind {
     Runs(Core),
     Translation,

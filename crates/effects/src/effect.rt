@@ -31,7 +31,7 @@ fn trap(f: Flags, regs: &File, cond: u32, rs1: u32, x: Operand) -> End
 }
 
 // The flags after a word, and how the run ended with it.
-#[derive(Drop)]
+#[derive(Clone, Copy)]
 pub struct Effect {
     pub flags: Flags,
     pub end: End,

@@ -19,14 +19,14 @@ use places::table::{address, is_held, next, pair_kind};
 use words::Flow;
 
 // How many places and records there are.
-#[derive(Drop)]
+#[derive(Clone, Copy)]
 pub struct Extent {
     pub count: usize,
     pub total: usize,
 }
 
 // A record, by its kinds from 1 to 7.
-#[derive(Drop)]
+#[derive(Clone, Copy)]
 pub enum Record {
     DoWord(u32),
     Link(SourcePc),
@@ -85,7 +85,7 @@ fn first_of_pair(
 }
 
 // A record's kind and the two numbers after it.
-#[derive(Drop)]
+#[derive(Clone, Copy)]
 struct Triple(u32, u32, u32);
 
 fn numbers_of(x: Record) -> Triple

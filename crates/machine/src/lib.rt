@@ -9,7 +9,7 @@ ghost use Rattle.machine.specs.Ends.{ending, ending_of, ending_from, is_going};
 pub mod registers;
 
 // An address of the source program. It is never read as a record number.
-#[derive(Drop)]
+#[derive(Clone, Copy)]
 pub struct SourcePc(pub u32);
 
 // The address so many bytes further.
@@ -20,11 +20,11 @@ pub fn further(p: SourcePc, bytes: u32) -> SourcePc
 }
 
 // A record's number. It is never read as a source address.
-#[derive(Drop)]
+#[derive(Clone, Copy)]
 pub struct TargetPc(pub u32);
 
 // The flags N, Z, V and C as one number, 8N + 4Z + 2V + C.
-#[derive(Drop)]
+#[derive(Clone, Copy)]
 pub struct Flags {
     pub nzvc: u32,
 }
@@ -34,7 +34,7 @@ impl Flags {
 }
 
 // How a run ended, with what stands beside it: a counter, or a number that need not be one.
-#[derive(Drop)]
+#[derive(Clone, Copy)]
 pub enum End {
     Going,
     // (rs1 + operand) modulo 128
@@ -63,7 +63,7 @@ pub fn is_going(e: End) -> bool
 
 // An end's number, and the number beside it.
 #[repr(C)]
-#[derive(Drop)]
+#[derive(Clone, Copy)]
 pub struct Ended {
     pub end: u32,
     pub number: u32,

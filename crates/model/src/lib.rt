@@ -14,14 +14,14 @@ pub fn target(p: SourcePc, disp: u32) -> SourcePc
 // What the old core is about to do, at an address: with a known next address, which is 4 further for a plain place and any other for a
 // slot; or held, with a next address that is known only when it is run. No code makes one: the definitions and contracts speak of places, and
 // the translator has them as three numbers, a row's address, next and kind.
-#[derive(Drop)]
+#[derive(Clone, Copy)]
 pub enum Place {
     Pair(u32, u32),
     Held(u32),
 }
 
 // What a translation answers: the place count and the record count, or a refusal with its value.
-#[derive(Drop)]
+#[derive(Clone, Copy)]
 pub enum Answer {
     Accepted(u32, u32),
     ImageLength(u64),

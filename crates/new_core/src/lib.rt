@@ -161,7 +161,7 @@ fn choose(cond: u32, to: TargetPc, c: NewControl) -> NewControl
 }
 
 // What is found of an address: the first record of its lowest-numbered plain place.
-#[derive(Drop)]
+#[derive(Clone, Copy)]
 pub enum Sought {
     Record(TargetPc),
     Nothing,

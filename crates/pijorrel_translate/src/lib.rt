@@ -6,7 +6,7 @@ use model::Answer;
 
 // 01's number for an answer, and the values returned with it.
 #[repr(C)]
-#[derive(Drop)]
+#[derive(Clone, Copy)]
 pub struct PijorrelAnswer {
     pub number: u32,
     pub first: u64,

@@ -8,14 +8,14 @@ use words::{Instruction, Operand, Written};
 
 // 0 and the word, or 7 and the bits of the field.
 #[repr(C)]
-#[derive(Drop)]
+#[derive(Clone, Copy)]
 pub struct PijorrelWritten {
     pub number: u32,
     pub value: u32,
 }
 
 // The six numbers of an instruction.
-#[derive(Drop)]
+#[derive(Clone, Copy)]
 pub struct Six {
     pub form: u32,
     pub annul: u32,

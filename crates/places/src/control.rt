@@ -10,7 +10,7 @@ use machine::{SourcePc, further};
 use words::Flow;
 
 // The word at an address, if that lies in the image.
-#[derive(Drop)]
+#[derive(Clone, Copy)]
 pub enum Fetched {
     Word(u32),
     Outside,

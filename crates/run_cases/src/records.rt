@@ -19,7 +19,7 @@ fn ended_in(known: &[u8], state: &[u8; NEW_STATE], r: Ended) -> bool
 }
 
 // Where the parts of a case start, and how many bytes its place table (rows), its records (extent) and its data (size) have.
-#[derive(Drop)]
+#[derive(Clone, Copy)]
 struct Parts {
     places: usize,
     rows: usize,

@@ -11,7 +11,7 @@ use machine::registers::{FILE, File};
 use machine::{End, Flags, SourcePc, TargetPc};
 
 // The old core's state but for its registers, which are lent beside it.
-#[derive(Drop)]
+#[derive(Clone, Copy)]
 pub struct OldControl {
     pub flags: Flags,
     pub pc: SourcePc,
@@ -49,7 +49,7 @@ impl OldCore {
 }
 
 // The new core's state but for its registers, which are lent beside it: the record at hand, and the held address.
-#[derive(Drop)]
+#[derive(Clone, Copy)]
 pub struct NewControl {
     pub flags: Flags,
     pub at: TargetPc,

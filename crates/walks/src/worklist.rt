@@ -20,7 +20,7 @@ use places::table::{pair_kind, write_place};
 use words::Flow;
 
 // How the walk stands, or ended: so many places, a held place with a forbidden word, a place for which there is no room.
-#[derive(Drop)]
+#[derive(Clone, Copy)]
 pub enum Found {
     Places(usize),
     Forbidden(u32),

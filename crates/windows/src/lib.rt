@@ -1,5 +1,7 @@
 // Register windows: the current one lies in registers 8 to 31, the others in a ring of 128 numbers at the end of the file, in eights: the ins of
 // a window, its locals, the ins of the next one. Eight numbers are read before they are written, and so go as one.
+#![tactic(auto)]
+
 ghost use Rattle.std.specs.Prelude.{◌≡◌, ◌+◌, ◌*◌, ◌<◌, ◌≤◌, min, get_or};
 ghost use Rattle.words.specs.declared.WindowOperation.TheVariants.{Save, Restore};
 ghost use Rattle.machine.specs.Ends.{left, settle};

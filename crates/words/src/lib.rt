@@ -9,13 +9,13 @@ ghost use Rattle.words.specs.Reader.{bits, bit_set, register_strays, set_from, r
 ghost use Rattle.words.specs.Conditions.{bit_at, holds_of};
 
 // The second operand: a register, or a constant. A shift's constant has 5 bits and a Ticc's 7; any other is a signed one of 13, extended to 32.
-#[derive(Drop)]
+#[derive(Clone, Copy)]
 pub enum Operand {
     Register(usize),
     Constant(u32),
 }
 
-#[derive(Drop)]
+#[derive(Clone, Copy)]
 pub enum Operation {
     Add,
     And,
@@ -32,7 +32,7 @@ pub enum Operation {
 }
 
 // A shift has no flag form.
-#[derive(Drop)]
+#[derive(Clone, Copy)]
 pub enum ShiftOperation {
     Sll,
     Srl,
@@ -40,14 +40,14 @@ pub enum ShiftOperation {
 }
 
 // Into the next register window and back.
-#[derive(Drop)]
+#[derive(Clone, Copy)]
 pub enum WindowOperation {
     Save,
     Restore,
 }
 
 // A byte and a half are loaded with or without their sign extended.
-#[derive(Drop)]
+#[derive(Clone, Copy)]
 pub enum LoadOperation {
     Ld,
     Ldub,
@@ -57,7 +57,7 @@ pub enum LoadOperation {
 }
 
 // How much a store moves: 1, 2 or 4 bytes.
-#[derive(Drop)]
+#[derive(Clone, Copy)]
 pub enum Width {
     Byte,
     Half,
@@ -66,7 +66,7 @@ pub enum Width {
 
 // rs1 and the second operand as one, so that they lie where those of other words lie behind rd: as two fields of a wry they kept the compiler
 // from taking instructions apart.
-#[derive(Drop)]
+#[derive(Clone, Copy)]
 pub struct Sources {
     pub rs1: u32,
     pub operand: Operand,
@@ -74,7 +74,7 @@ pub struct Sources {
 
 // What a word reads as: illegal, or an instruction. Each instruction has one word, if its numbers fit their fields. Displacements
 // count words and are signed, extended to 32 bits.
-#[derive(Drop)]
+#[derive(Clone, Copy)]
 pub enum Instruction {
     Illegal,
     // disp30
@@ -104,7 +104,7 @@ pub enum Instruction {
 }
 
 // What an instruction does to control: all that the rules of places and records tell apart.
-#[derive(Drop)]
+#[derive(Clone, Copy)]
 pub enum Flow {
     // an illegal word
     Faults,
@@ -120,7 +120,7 @@ pub enum Flow {
 }
 
 // An instruction's word, or the bits of the field that a number of it does not fit: of several, the one highest in the word.
-#[derive(Drop)]
+#[derive(Clone, Copy)]
 pub enum Written {
     Fit(u32),
     Unfit(u32),

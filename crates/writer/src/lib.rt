@@ -1,4 +1,6 @@
 // The word of an instruction, field behind field, or the bits of the field that a number of it does not fit.
+#![tactic(auto)]
+
 ghost use Rattle.std.specs.Prelude.{◌≡◌, false, List, [], ◌∷◌, ℕ, ◌+◌, ◌-◌, ◌^◌, ◌<◌, ◌≤◌, min};
 ghost use Rattle.words.specs.Conditions.{bit_of};
 ghost use Rattle.words.specs.declared.Operand.TheVariants.{Register};

@@ -2,7 +2,6 @@ use Rattle.words.specs.Reader.{format0_of}
 use Rattle.words.specs.Flow.{flow_of}
 use Rattle.words.proofs.Reader.{no_row0}
 use mathlib.Core.Path.{ap}
-use borrow.Author.Rules.{rules}
 use Rattle.flows.proofs.flow0.Goals as goal
 
 pub returns-in-2 : goal.returns-in-2

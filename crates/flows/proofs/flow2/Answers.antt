@@ -6,7 +6,7 @@ use Rattle.words.proofs.Strict.{beside_none}
 use Rattle.flows.proofs.flow2.Goals as goal
 
 pub other_flow2-requires : goal.other_flow2-requires
-other_flow2-requires c κs = c.requires
+other_flow2-requires c = c.requires
 
 pub returns-in-0 : goal.returns-in-0
 unfolding flow_of format2_of strictly unused_set

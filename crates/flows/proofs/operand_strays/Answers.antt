@@ -3,7 +3,6 @@ use mathlib.Core.Path.{sym, ◌∙◌}
 use borrow.Author.Tests.{eq-eqb, ne_eqb}
 use Rattle.words.specs.Reader.{set_from}
 use Rattle.words.proofs.Strict.{no_bit_high, constant_strays, register_set_strays}
-use borrow.Author.Rules.{rules}
 use Rattle.flows.proofs.operand_strays.Goals as goal
 
 pub returns-then-high8-eq0 : goal.returns-then-high8-eq0

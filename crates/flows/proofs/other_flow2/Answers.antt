@@ -7,7 +7,7 @@ use Rattle.words.proofs.Strict.{beside_none, shift_none}
 use Rattle.flows.proofs.other_flow2.Goals as goal
 
 pub trap_flow-requires : goal.trap_flow-requires
-trap_flow-requires c κs = beside_none _ _ c.requires.0
+trap_flow-requires c = beside_none _ _ c.requires.0
 
 pub returns-in-37 : goal.returns-in-37
 unfolding flow_of strictly unused_set

@@ -1,6 +1,5 @@
 use Rattle.words.specs.Reader.{unused_set, strictly}
 use Rattle.words.specs.Flow.{flow_of}
-use borrow.Author.Rules.{rules}
 use Rattle.flows.proofs.rdy_flow.Goals as goal
 
 pub returns-then-rdy_strays : goal.returns-then-rdy_strays

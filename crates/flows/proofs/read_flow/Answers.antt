@@ -5,7 +5,6 @@ use Rattle.words.specs.Flow.{flow_of}
 use Rattle.words.specs.declared.Flow.TheVariants.{Calls}
 use Rattle.words.proofs.Reader.{by_op_lem, top_two}
 use Rattle.words.proofs.Strict.{clear_0, clear_3, beside_none, strays_flow}
-use borrow.Author.Rules.{rules}
 use Rattle.flows.proofs.read_flow.Goals as goal
 
 pub returns-then-k-eq0 : goal.returns-then-k-eq0
@@ -21,7 +20,7 @@ unfolding flow_of
 returns-then-operand_strays c = ap flow_of (strays_flow _ (omega (arith, c.op-k.ensures)) (rw (← c.op3.ensures) (sym c.operand_strays.ensures ∙ c.if-operand_strays.true)))
 
 pub flow2_or_y-requires : goal.flow2_or_y-requires
-flow2_or_y-requires c κs = rw (c.op3-then-k-eq2.ensures, ← c.op3.ensures) (sym c.operand_strays.ensures ∙ c.if-operand_strays.false)
+flow2_or_y-requires c = rw (c.op3-then-k-eq2.ensures, ← c.op3.ensures) (sym c.operand_strays.ensures ∙ c.if-operand_strays.false)
 
 pub returns-then-k-eq2 : goal.returns-then-k-eq2
 unfolding by_format

@@ -1,7 +1,6 @@
 use Rattle.words.specs.Reader.{unused_set, strictly}
 use Rattle.words.specs.Flow.{flow_of}
 use borrow.Author.Tests.{eq-eqb, ne_eqb}
-use borrow.Author.Rules.{rules}
 use Rattle.flows.proofs.trap_flow.Goals as goal
 
 pub returns-then-trap_strays : goal.returns-then-trap_strays

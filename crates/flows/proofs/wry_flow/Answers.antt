@@ -1,7 +1,6 @@
 use Rattle.words.specs.Reader.{wry_strays, unused_set, strictly}
 use Rattle.words.specs.Flow.{flow_of}
 use borrow.Author.Tests.{ne_eqb}
-use borrow.Author.Rules.{rules}
 use Rattle.flows.proofs.wry_flow.Goals as goal
 
 pub returns-then-rd-ne0 : goal.returns-then-rd-ne0

@@ -1,0 +1,7 @@
+use Rattle.windows.proofs.Ring.{laid_eights}
+use Rattle.windows.proofs.lay_down.Goals as goal
+
+pub returns : goal.returns
+returns c =
+    laid_eights _ _ _ _ c.place.ensures.0 c.place-2.ensures.0 c.place-3.ensures.0 _ _ _ _
+    c.nesting-w.ensures c.copy_eight.ensures c.copy_eight-2.ensures c.copy_eight-3.ensures
