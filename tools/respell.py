@@ -61,10 +61,11 @@ def mapping(names, fields):
     return new
 
 
-def respell(text, new, fields, tokens):
+def respell(text, new, fields, tokens, everywhere=False):
     def one(found):
         word = found[0]
-        if word not in new or (found.start() and text[found.start() - 1] == "." and word not in fields):
+        behind_dot = found.start() and text[found.start() - 1] == "."
+        if word not in new or (behind_dot and not everywhere and word not in fields):
             return word
         return new[word]
 
@@ -83,7 +84,9 @@ def main(argv):
         if not path.endswith((".antt", ".rt", ".edit")) or "/out/" in path:
             continue
         text = open(path, encoding="utf-8").read()
-        to = respell(text, new, fields, tokens)
+        # In lemmas and definitions Rattle makes no name behind a dot: it is a field, of a record perhaps that stands in a section.
+        lemmas = re.fullmatch(r"crates/\w+/(specs/.*|proofs/[^/]*)\.antt", path)
+        to = respell(text, new, fields, tokens, bool(lemmas))
         if to != text:
             open(path, "w", encoding="utf-8").write(to)
     for path in sorted(glob.glob("docs/*.md")) + ["README.md"]:

@@ -16,7 +16,7 @@ use Rattle.model.specs.declared.Place.TheVariants.{Pair, Held}
 use Rattle.model.specs.OldCore.{word_in, Transfer, illegal, straight, trap, call, bicc, jmpl, transfer_of, target}
 use Rattle.model.specs.Places.{place_at, next_of, kind_of, same_place, member, Which, never, always, depends, which_of, bicc_names, names, names_at, unimp_behind, followers, Makes}
 use Rattle.model.specs.Walk.{table}
-use Rattle.model.specs.Records.{Rec, do_word, link, hold, go_if, go_to, go_held, stop, unknown, Group, one, two, bicc_group, group_of, held_group_of, group_at, held_group_at, group, past, numbered, Row, row, Grouping, in_full, first, rows_from, records_from, rows_of, records_of, numbers_in}
+use Rattle.model.specs.Records.{Rec, do_word, link, hold, go_if, go_to, go_held, stop, unknown, Group, one, two, bicc_group, group_of, held_group_of, group_at, held_group_at, group, past, numbered, Row, Grouping, in_full, first, rows_from, records_from, rows_of, records_of, numbers_in}
 use Rattle.model.specs.Translation.{Handed, place_room}
 use Rattle.model.specs.AllOfThem.{row_of, Lists, FirstRecord, Renders, GroupAt, size_of, Grouped, AllOfThem}
 use Rattle.model.proofs.Members.{same_self, same_eq, AllIn, get_mem, mem_get, NoTwice, no_twice_at}

@@ -18,7 +18,7 @@ use Rattle.effects.specs.Effect.{Machine, machine}
 use Rattle.model.specs.Run.{data_of}
 use Rattle.model.specs.OldCore.{Old, old, old_next}
 use Rattle.model.specs.NewCore.{New, new, new_next}
-use Rattle.model.specs.StateBytes.{file_in, old_behind, new_behind, old_in, old_bytes, new_in, new_bytes, old_after, new_after}
+use Rattle.model.specs.StateBytes.{file_in, machine_in, is_set, old_behind, new_behind, old_in, old_bytes, new_in, new_bytes, old_after, new_after}
 use Rattle.model.proofs.Bounds.{SoundState, SoundOld, old_leaves, SoundNew, new_leaves}
 use Rattle.model.proofs.RoundTrip.{tail_back, machine_back, shown_back, annul_back, end_back, machine_sound}
 use Rattle.model.proofs.Coded.{Coded}
@@ -118,7 +118,7 @@ old_coded image base db =
 pub old_sound : (bs l : List ℕ) → Below 256 bs → Below 256 l → SoundState (SoundOld (length (data_of l))) (old_in bs (data_of l))
 unfolding old_in
 old_sound bs l b d =
-    from_sound (SoundOld (length (data_of l))) _ (number_at bs 144) (number_at bs 148) (number_lt bs 148 b)
+    from_sound (SoundOld (length (data_of l))) (old (machine_in old_behind bs (data_of l)) (number_at bs 132) (number_at bs 136) (is_set (number_at bs 140))) (number_at bs 144) (number_at bs 148) (number_lt bs 148 b)
     (machine_sound old_behind bs l b d, number_lt bs 132 b, number_lt bs 136 b)
 
 -- ---------------------------------------------------------------- the new core
@@ -190,5 +190,5 @@ new_coded records places base size db br bp =
 pub new_sound : (bs l : List ℕ) → Below 256 bs → Below 256 l → SoundState (SoundNew (length (data_of l))) (new_in bs (data_of l))
 unfolding new_in
 new_sound bs l b d =
-    from_sound (SoundNew (length (data_of l))) _ (number_at bs 140) (number_at bs 144) (number_lt bs 144 b)
+    from_sound (SoundNew (length (data_of l))) (new (machine_in new_behind bs (data_of l)) (number_at bs 132) (number_at bs 136)) (number_at bs 140) (number_at bs 144) (number_lt bs 144 b)
     (machine_sound new_behind bs l b d, number_lt bs 132 b, number_lt bs 136 b)

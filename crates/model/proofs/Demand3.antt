@@ -181,7 +181,7 @@ module _ (image : List ℕ) (base db : ℕ) (es : List ℕ) (cap : ℕ) (ps : Li
         → ((v : ℕ) → N.by_held last ≡ some v → stood N steps (live begun) < k) → strays h
     strays_of h steps (new m r g) go ends room =
         let f : Fell records places base (length image) db r g h = six_fell records places base (length image) db m r g h ends in
-        let b : N.by_held (new m r g) ≡ some g = kind_6_goes records places base (length image) db m r g f.kind-6 in
+        let b : N.by_held (new m r g) ≡ some g = kind_6_goes records places base (length image) db m r g f.kind_6 in
         record {
           steps = steps;
           there = new m r g;
@@ -281,7 +281,7 @@ laid image base entryList placesLength recordsLength placeCount recordCount ib e
     let C : Closed image base tk.ps =
     places_closed image base (place_room placesLength) es tk.ps (entries_aligned base (length image) 0 es (numbers_lt entryList eb) tk.good) tk.made in
     let few : length tk.ps ≤ 8192 = omega (arith, places_fit image base (place_room placesLength) es tk.ps tk.made) in
-    let p : places ≡ bytes_of (table_numbers (rows_of (in_full image base) tk.ps)) = et ∙ ap (λ (z : Handed). take (16 * placeCount) z.places) eh ∙ tk.table-bytes in
+    let p : places ≡ bytes_of (table_numbers (rows_of (in_full image base) tk.ps)) = et ∙ ap (λ (z : Handed). take (16 * placeCount) z.places) eh ∙ tk.table_bytes in
     let r : records ≡ bytes_of (records_numbers (records_of (in_full image base) tk.ps)) =
     er ∙ ap (λ (z : Handed). take (12 * recordCount) z.records) eh ∙ tk.record_bytes in
     record {

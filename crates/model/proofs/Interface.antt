@@ -12,7 +12,7 @@ use Rattle.numbers.specs.Choice.{pick}
 use Rattle.numbers.specs.Number.{Below, plus, number_at}
 use Rattle.numbers.proofs.Bounds.{plus_lt}
 use Rattle.words.specs.Conditions.{bit_of}
-use Rattle.machine.specs.Ends.{Ending, ending, go, State, live}
+use Rattle.machine.specs.Ends.{Ending, ending, State, live}
 use Rattle.effects.specs.Effect.{Machine}
 use Rattle.model.specs.Run.{run, data_of}
 use Rattle.model.specs.OldCore.{Old, old, old_machine, in_image, old_next, old_begun}

@@ -10,7 +10,7 @@ use borrow.Author.Tests.{eqb-true}
 use Rattle.numbers.specs.Choice.{pick}
 use Rattle.numbers.proofs.Choice.{either}
 use Rattle.words.specs.declared.Operand.{Operand}
-use Rattle.words.specs.Conditions.{holds_of, rows}
+use Rattle.words.specs.Conditions.{holds_of}
 use Rattle.words.specs.Reader.{instruction_of}
 use Rattle.machine.specs.Ends.{ending, Next, go, halt, within}
 use Rattle.machine.specs.Registers.{address_of}

@@ -26,7 +26,7 @@ use Rattle.model.specs.Cores.{old_mark, old_over}
 use Rattle.model.proofs.Transfers.{holds_never, holds_always, trap_halts}
 use Rattle.model.proofs.Hop.{Left, onward, ends, leaves, left, Hop, once, twice, Over}
 use Rattle.model.proofs.Follows.{Aligned, Closed, left_by, Follower}
-use Rattle.model.proofs.Middle.{Out, on, over, by, Reads, reads, linked, out_of, jump_out, branch_out, bicc_out, held_out, do_out, do_held, out_at, held_at, out}
+use Rattle.model.proofs.Middle.{Out, by, Reads, reads, linked, out_of, jump_out, branch_out, bicc_out, held_out, do_out, do_held, out_at, held_at, out}
 
 -- opens what the old core does to control
 old_open : Unit {0}

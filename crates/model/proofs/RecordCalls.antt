@@ -11,7 +11,7 @@ use Rattle.numbers.specs.Number.{Below, plus}
 use Rattle.numbers.proofs.Choice.{both}
 use Rattle.words.specs.Reader.{bits, instruction_of, is_unimp}
 use Rattle.words.specs.declared.Instruction.{Instruction}
-use Rattle.words.specs.declared.Instruction.TheVariants.{Call, Jmpl}
+use Rattle.words.specs.declared.Instruction.TheVariants.{Illegal, Call, Sethi, Bicc, Arithmetic, Jmpl, Ticc, Load, Store, Shift, Rdy, Wry, Window}
 use Rattle.model.specs.declared.Place.{Place}
 use Rattle.model.specs.declared.Place.TheVariants.{Pair, Held}
 use Rattle.model.specs.OldCore.{word_in, transfer_of, target}
@@ -64,6 +64,17 @@ module _ (image : List ℕ) (base p n : ℕ) (ib : Below 256 image) where
   unfolding names transfer_of place_at
   linked word (Call disp) e (by_call d) = record { slot = Pair n (target p disp); in_slot = refl; named = rw e }
   linked word (Jmpl rd rs1 x) e (by_jmpl r s y h) = record { slot = Held n; in_slot = refl; named = rw (e, ne_eqb rd 0 h) }
+  linked word Illegal e k = elim k [ ]
+  linked word (Sethi _ _) e k = elim k [ ]
+  linked word (Bicc _ _ _) e k = elim k [ ]
+  linked word (Arithmetic _ _ _ _ _) e k = elim k [ ]
+  linked word (Ticc _ _ _) e k = elim k [ ]
+  linked word (Load _ _ _ _) e k = elim k [ ]
+  linked word (Store _ _ _ _) e k = elim k [ ]
+  linked word (Shift _ _ _ _) e k = elim k [ ]
+  linked word (Rdy _) e k = elim k [ ]
+  linked word (Wry _) e k = elim k [ ]
+  linked word (Window _ _ _ _) e k = elim k [ ]
 
   module _ (word : ℕ) (w : word_in image base p ≡ some word) (k : Links (instruction_of word)) where
     returns : (b : Bool) → unimp_behind image base p ≡ b → (rest : List Place) → return_names b p ≡ plain (plus p 8) ∷ rest → Names image base p n rest

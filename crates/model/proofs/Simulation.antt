@@ -59,14 +59,14 @@ module _ (image : List ℕ) (base db : ℕ) {S : Type 0} {c : Core S} (F : Follo
   enters (suc k) f i a m none false e q l al = (shut (ending 2 a), (rw (inside_word image base a, e), refl))
   enters (suc k) f i a m (some w) false e q l al = (shut (ending 6 a), (rw (inside_word image base a, e), refl))
   enters zero zero i a m o true e q l al = absurd (omega arith)
-  enters zero (suc f) i a m o true e q l al = rw (F.marks-on a m q)
+  enters zero (suc f) i a m o true e q l al = rw (F.marks_on a m q)
   enters (suc k) zero i a m o true e q l al = absurd (omega arith)
   enters (suc k) (suc zero) i a m o true e q l al = absurd (omega arith)
   enters (suc k) (suc (suc f)) i a m none true e q l al =
-      let r = hopped c F.over f k i a (F.to (plain a) a m) (ends (ending 2 a)) (F.marks-on a m q) (F.ends_on a m q al e) in
+      let r = hopped c F.over f k i a (F.to (plain a) a m) (ends (ending 2 a)) (F.marks_on a m q) (F.ends_on a m q al e) in
       (shut (ending 2 a), (r.eq ∙ ap (λ (z : Machine). at i a (shown_of z) (shut (ending 2 a))) (F.has (plain a) a m), refl))
   enters (suc k) (suc (suc f)) i a m (some w) true e q l al =
-      (trail c (suc f) k 1 (step c.next (live (F.to (plain a) a m))), (rw (F.marks-on a m q, F.has (plain a) a m), tt))
+      (trail c (suc f) k 1 (step c.next (live (F.to (plain a) a m))), (rw (F.marks_on a m q, F.has (plain a) a m), tt))
 
 module _ (image : List ℕ) (base db : ℕ) {S T : Type 0} {c : Core S} {d : Core T} (F : Follower image base db c) (G : Follower image base db d)
     (meet : Meet F G) where

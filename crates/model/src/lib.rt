@@ -1,4 +1,6 @@
 // Places and answers. specs/ has document 01 as definitions, in 01's order.
+#![tactic(auto)]
+
 ghost use Rattle.std.specs.Prelude.{◌≡◌};
 ghost use Rattle.model.specs.OldCore.{target};
 

@@ -91,7 +91,7 @@ ends_places image base rl u l e = rw (e, l)
 module _ (image : List ℕ) (base : ℕ) (entries : List ℕ) (pl rl : ℕ) where
   answer_fits : (a : Answer) → a ≡ (translation image base entries pl rl).answer → (16 * places_counted a ≤ pl) × (12 * records_counted a ≤ rl)
   unfolding places_counted records_counted
-  answer_fits (Accepted n m) e = let t = took image base entries pl rl n m (sym e) in (t.place-room, t.record-room)
+  answer_fits (Accepted n m) e = let t = took image base entries pl rl n m (sym e) in (t.place_room_lem, t.record_room)
   answer_fits (ImageLength n) e = (omega arith, omega arith)
   answer_fits (Base a) e = (omega arith, omega arith)
   answer_fits (Entry k) e = (omega arith, omega arith)

@@ -4,17 +4,12 @@ use native.Mathlib.Nat.{add-mod-mod}
 use native.Mathlib.Omega.{arith}
 use mathlib.Core.Path.{◌≡◌, ◌∙◌}
 use Prim.Native.Nat.{ℕ, ◌*◌, ◌%◌, ◌^◌}
-use borrow.Author.Rules.{rules}
-use Rattle.model.proofs.target.Statement.{statement}
-use Rattle.model.proofs.target.Tie as tie
+use Rattle.model.proofs.target.Goals as goal
 
 -- a displacement in words, shifted, is four times itself
 in_words : (p disp : ℕ) → plus p (disp * 4 % 2 ^ 32) ≡ target p disp
 unfolding plus target
 in_words p disp = add-mod-mod p (disp * 4) (2 ^ 32) ∙ omega arith
 
-returns : tie.Need-returns
+pub returns : goal.returns
 returns c = c.further.ensures ∙ in_words _ _
-
-pub target-spec : {M : Type 1} → statement M
-target-spec = tie.close (tie.spec (λ c κs. search rules) returns)
