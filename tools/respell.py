@@ -86,7 +86,9 @@ def main(argv):
         text = open(path, encoding="utf-8").read()
         # In lemmas and definitions Rattle makes no name behind a dot: it is a field, of a record perhaps that stands in a section.
         lemmas = re.fullmatch(r"crates/\w+/(specs/.*|proofs/[^/]*)\.antt", path)
-        to = respell(text, new, fields, tokens, bool(lemmas))
+        # In code a word that has the new spelling already is a function.
+        names = {it: new[it] for it in new if snake(it) != it} if path.endswith(".rt") else new
+        to = respell(text, names, fields, tokens, bool(lemmas))
         if to != text:
             open(path, "w", encoding="utf-8").write(to)
     for path in sorted(glob.glob("docs/*.md")) + ["README.md"]:

@@ -1,4 +1,6 @@
 // The new core: records and one program counter, a record at a time.
+#![tactic(auto)]
+
 ghost use Rattle.std.specs.Prelude.{◌≡◌, ℕ, ◌+◌, ◌*◌, ◌≤◌, List, length};
 ghost use Rattle.std.proofs.Math.Option.{some};
 ghost use Rattle.numbers.specs.Choice.{pick};
@@ -186,7 +188,7 @@ fn search(places: &[u8], a: SourcePc) -> Sought
 }
 
 // Whether an address lies in the image.
-fn address_in_image(base: u32, size: u32, a: SourcePc) -> bool
+fn in_image(base: u32, size: u32, a: SourcePc) -> bool
     ensures { result ≡ in_image base size a.0 }
 {
     numbers::subtract(a.0, base) as u64 + 4 <= size as u64
@@ -196,7 +198,7 @@ fn address_in_image(base: u32, size: u32, a: SourcePc) -> bool
 fn lost_at(base: u32, size: u32, a: SourcePc) -> End
     ensures { ending_of result ≡ lost (in_image base size a.0) a.0 }
 {
-    if address_in_image(base, size, a) {
+    if in_image(base, size, a) {
         return End::NoPlace(a);
     }
     End::Outside(a)

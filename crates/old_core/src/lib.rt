@@ -1,4 +1,6 @@
 // The old core: SPARC V8 words under PC, nPC and annul, a step at a time.
+#![tactic(auto)]
+
 ghost use Rattle.std.specs.Prelude.{◌≡◌, ℕ, ◌%◌, List, eqb};
 ghost use Rattle.numbers.specs.Choice.{pick};
 ghost use Rattle.words.specs.Conditions.{holds_of};

@@ -13,7 +13,7 @@ const TAG: u32 = 0x5452414C;
 const ENTRY: usize = 140;
 
 // Whether a state that has not ended is the one that an entry recorded.
-fn stands_at_lem(state: &[u8], entry: &[u8]) -> bool
+fn stands_at(state: &[u8], entry: &[u8]) -> bool
     ensures { result ≡ stands_at state.now entry.now }
 {
     (number(state, 144) == 0)
@@ -35,7 +35,7 @@ fn pass(
 {
     let annulled = (number(state, 140) != 0) as u16;
     pijorrel_old::pijorrel_old_run(image, base, db, state, area, annulled);
-    let same = stands_at_lem(state, entry);
+    let same = stands_at(state, entry);
     pijorrel_old::pijorrel_old_run(image, base, db, state, area, 1);
     same
 }

@@ -1,4 +1,6 @@
 // The states of the cores: their start values, and their register file in a state's bytes.
+#![tactic(auto)]
+
 ghost use Rattle.std.specs.Prelude.{◌≡◌, ◌+◌, ◌*◌, ◌-◌, ◌≤◌, ◌++◌, length, take, drop};
 ghost use Rattle.numbers.specs.Number.{bytes_of};
 ghost use Rattle.machine.specs.Registers.{file_size};
