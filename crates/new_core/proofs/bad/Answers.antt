@@ -1,0 +1,7 @@
+use Rattle.machine.specs.Ends.{ending_of, settle}
+use borrow.Author.Rules.{rules}
+use Rattle.new_core.proofs.bad.Goals as goal
+
+pub returns : goal.returns
+unfolding settle ending_of
+returns c = λ rs a. c.stop.ensures rs a
