@@ -1,4 +1,6 @@
 // The reader and the writer of words for a planner in C: an instruction is six numbers, 24 bytes, big-endian.
+#![tactic(auto)]
+
 ghost use Rattle.std.specs.Prelude.{◌≡◌, ◌%◌, [], ◌∷◌};
 ghost use Rattle.words.specs.Reader.{format2_of};
 ghost use Rattle.words.specs.Writer.{written_of};

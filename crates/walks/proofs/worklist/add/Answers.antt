@@ -5,7 +5,6 @@ use Prim.Native.Nat.{◌+◌}
 use Rattle.places.proofs.Chains.{ready_put}
 use Rattle.walks.proofs.Walking.{ended_full, still, add_present, add_absent, add_new, add_full, counts, counts_none}
 use native.Mathlib.Omega.{arith}
-use borrow.Author.Rules.{rules}
 use Rattle.walks.proofs.worklist.add.Goals as goal
 
 pub returns-then-find-count : goal.returns-then-find-count
