@@ -1,4 +1,6 @@
 // The old core for a loader in C: numbers and byte areas, numbers big-endian. Any bytes are a state.
+#![tactic(auto)]
+
 ghost use Rattle.std.specs.Prelude.{◌≡◌, List, ℕ};
 ghost use Rattle.machine.specs.Ends.{ending, ending_of};
 ghost use Rattle.windows.specs.Windows.{laid};

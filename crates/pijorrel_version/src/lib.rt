@@ -1,4 +1,6 @@
 // Which interface this library has, for a loader in C that may have been compiled with another header.
+#![tactic(auto)]
+
 ghost use Rattle.std.specs.Prelude.{◌≡◌};
 ghost use Rattle.pijorrel_version.specs.Version.{version};
 

@@ -1,6 +1,5 @@
 use Rattle.groups.specs.Layout.{size}
 use Rattle.groups.proofs.Grouping.{outside_group, word_group}
-use borrow.Author.Rules.{rules}
 use Rattle.groups.proofs.layout.group_size.Goals as goal
 
 pub returns-in-Word : goal.returns-in-Word

@@ -1,15 +1,10 @@
 use Rattle.numbers.proofs.Number.{length_put}
 use Rattle.numbers.specs.Number.{up_to, numbers_of}
-use Rattle.model.specs.Records.{in_full}
-use Rattle.places.specs.Table.{SameRow, places_in}
 use Rattle.groups.proofs.Grouping.{row_size}
-use Rattle.groups.proofs.Laying.{Laying, lay_turn, lay_end, row_kept, row_trans, size_bound}
-use lib.ListN.{length}
+use Rattle.groups.proofs.Laying.{lay_turn, lay_end, row_kept, row_trans, size_bound}
 use native.Mathlib.Nat.{zero-add}
 use native.Mathlib.Omega.{arith}
-use mathlib.Core.Path.{◌≡◌, refl}
-use Prim.Native.Nat.{ℕ, ◌*◌, ◌-◌, ◌≤◌}
-use borrow.Author.Rules.{rules}
+use mathlib.Core.Path.{refl}
 use Rattle.groups.proofs.layout.lay_out.Goals as goal
 
 pub loop-i-init : goal.loop-i-init

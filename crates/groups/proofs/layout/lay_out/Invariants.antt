@@ -1,15 +1,9 @@
-use Rattle.numbers.proofs.Number.{length_put}
-use Rattle.numbers.specs.Number.{up_to, numbers_of}
 use Rattle.model.specs.Records.{in_full}
 use Rattle.places.specs.Table.{SameRow, places_in}
-use Rattle.groups.proofs.Grouping.{row_size}
-use Rattle.groups.proofs.Laying.{Laying, lay_turn, lay_end, row_kept, row_trans, size_bound}
+use Rattle.groups.proofs.Laying.{Laying}
 use lib.ListN.{length}
-use native.Mathlib.Nat.{zero-add}
-use native.Mathlib.Omega.{arith}
-use mathlib.Core.Path.{◌≡◌, refl}
+use mathlib.Core.Path.{◌≡◌}
 use Prim.Native.Nat.{ℕ, ◌*◌, ◌-◌, ◌≤◌}
-use borrow.Author.Rules.{rules}
 use Rattle.groups.proofs.layout.lay_out.Given as goal
 
 abbrev pub invariant-loop-i : goal.invariant-loop-i

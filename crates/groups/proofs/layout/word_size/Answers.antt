@@ -4,7 +4,6 @@ use Rattle.model.specs.Records.{Group, group_of, held_group_of}
 use Rattle.places.specs.Control.{transferred}
 use Rattle.groups.specs.Layout.{size}
 use mathlib.Core.Path.{◌≡◌, refl}
-use borrow.Author.Rules.{rules}
 use Rattle.groups.proofs.layout.word_size.Goals as goal
 
 pub returns-then-held : goal.returns-then-held

@@ -1,6 +1,5 @@
 use Rattle.places.proofs.Rows.{place_plain, shows_plain}
 use mathlib.Core.Path.{◌∙◌}
-use borrow.Author.Rules.{rules}
 use Rattle.groups.proofs.records.first_of_plain.Goals as goal
 
 pub first_record-requires : goal.first_record-requires

@@ -1,6 +1,5 @@
 use Rattle.groups.specs.Layout.{first_in}
 use borrow.Author.Tests.{lt-ltb, le-ltb}
-use borrow.Author.Rules.{rules}
 use Rattle.groups.proofs.records.first_record.Goals as goal
 
 pub returns-then-j-e : goal.returns-then-j-e

@@ -1,6 +1,5 @@
 use Rattle.model.specs.Records.{record_numbers}
 use Rattle.groups.specs.Layout.{recorded}
-use borrow.Author.Rules.{rules}
 use Rattle.groups.proofs.records.numbers_of.Goals as goal
 
 pub returns-in-DoWord : goal.returns-in-DoWord

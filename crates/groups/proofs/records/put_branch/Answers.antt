@@ -2,7 +2,6 @@ use Rattle.model.specs.Records.{numbered}
 use Rattle.groups.proofs.Grouping.{never_group, always_group, annulled_group, depends_group}
 use Rattle.groups.specs.Layout.{recorded}
 use Rattle.groups.proofs.Putting.{puts_one, puts_two, puts_as, room_one, room_two}
-use borrow.Author.Rules.{rules}
 use Rattle.groups.proofs.records.put_branch.Goals as goal
 
 pub put_one-requires : goal.put_one-requires

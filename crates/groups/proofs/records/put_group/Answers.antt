@@ -3,7 +3,6 @@ use Rattle.groups.proofs.Grouping.{row_outside, row_held, row_pair}
 use Rattle.groups.specs.Layout.{recorded}
 use Rattle.groups.proofs.Putting.{puts_one, puts_as, room_as, room_one}
 use mathlib.Core.Path.{refl}
-use borrow.Author.Rules.{rules}
 use Rattle.groups.proofs.records.put_group.Goals as goal
 
 pub put_held-requires : goal.put_held-requires

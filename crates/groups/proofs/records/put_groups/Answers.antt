@@ -1,17 +1,12 @@
 use Rattle.numbers.specs.Number.{up_to, numbers_of}
-use Rattle.model.specs.Records.{in_full, records_from, records_numbers}
+use Rattle.model.specs.Records.{in_full}
 use Rattle.places.proofs.Rows.{length_places}
 use Rattle.places.specs.Table.{places_in}
 use Rattle.groups.proofs.Laying.{needed_le, needed_turn, next_place}
 use Rattle.groups.proofs.Putting.{put_turn, put_end}
-use Rattle.groups.specs.Layout.{needed, first_in}
-use lib.ListN.{length, drop}
 use native.Mathlib.Nat.{zero-add}
 use native.Mathlib.Omega.{arith}
-use mathlib.Core.List.{◌++◌}
-use mathlib.Core.Path.{◌≡◌, refl, sym, ◌∙◌}
-use Prim.Native.Nat.{◌+◌, ◌*◌, ◌-◌, ◌≤◌}
-use borrow.Author.Rules.{rules}
+use mathlib.Core.Path.{refl, sym, ◌∙◌}
 use Rattle.groups.proofs.records.put_groups.Goals as goal
 
 pub loop-i-init : goal.loop-i-init

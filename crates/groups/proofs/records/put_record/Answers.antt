@@ -1,7 +1,6 @@
 use Rattle.model.specs.Records.{records_numbers}
 use Rattle.groups.proofs.Putting.{record_put}
 use native.Mathlib.Omega.{arith}
-use borrow.Author.Rules.{rules}
 use Rattle.groups.proofs.records.put_record.Goals as goal
 
 pub returns : goal.returns

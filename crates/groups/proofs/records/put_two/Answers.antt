@@ -1,6 +1,5 @@
 use Rattle.groups.proofs.Putting.{then_record}
 use mathlib.Core.Path.{refl}
-use borrow.Author.Rules.{rules}
 use Rattle.groups.proofs.records.put_two.Goals as goal
 
 pub returns : goal.returns

@@ -8,7 +8,6 @@ use Prim.Native.Nat.{suc, ◌*◌, ◌≤◌}
 use lib.ListN.{length}
 use mathlib.Core.Path.{refl}
 use native.Mathlib.Omega.{arith}
-use borrow.Author.Rules.{rules}
 use Rattle.groups.proofs.records.put_word.Goals as goal
 
 pub put_one-requires : goal.put_one-requires
