@@ -4,7 +4,7 @@ use Rattle.listing.proofs.Writing.{written_more, goes_on, written_one}
 use borrow.Author.Tests.{ltb-true, ltb-false}
 use lib.Seq.{drop-cons, take_all}
 use lib.ListN.{length, get_or, drop, set, drop_of_length-le, take, length-drop}
-use lib.Dec.{ltb, T}
+use lib.Dec.{ltb}
 use native.Mathlib.Numerals.{add-one}
 use native.Mathlib.Omega.{arith}
 use mathlib.Core.List.{List, [], ◌∷◌, ◌++◌, append_assoc}

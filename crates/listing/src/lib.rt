@@ -1,4 +1,6 @@
 // The listing: all that the listing program writes, for the bytes that it read.
+#![tactic(auto)]
+
 ghost use Rattle.std.specs.Prelude.{◌≡◌, ◌+◌, ◌*◌, ◌≤◌, [], ◌∷◌, length};
 ghost use Rattle.numbers.specs.Number.{number_at};
 ghost use Rattle.translator.specs.Handing.{places_counted, records_counted};

@@ -1,4 +1,6 @@
 // The translator for a loader in C: numbers and byte areas, numbers big-endian. Any bytes and any lengths get an answer.
+#![tactic(auto)]
+
 ghost use Rattle.std.specs.Prelude.{◌≡◌, [], ◌∷◌, length};
 ghost use Rattle.model.specs.Translation.{answer_numbers, back, returned, translation};
 
