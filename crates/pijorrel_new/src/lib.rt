@@ -1,4 +1,6 @@
 // The new core for a loader in C: numbers and byte areas, numbers big-endian. Any bytes are a state.
+#![tactic(auto)]
+
 ghost use Rattle.std.specs.Prelude.{◌≡◌, List, [], ℕ};
 ghost use Rattle.machine.specs.Ends.{ending, ending_of};
 ghost use Rattle.windows.specs.Windows.{laid};
@@ -46,7 +48,6 @@ fn encode(regs: &mut File, c: NewControl, state: &mut [u8; NEW_STATE]) -> Ended
 }
 
 // Begins at an address: registers, flags, Y, nesting and windows stay.
-#[unsafe(no_mangle)]
 pub extern "C" fn pijorrel_new_begin(
     places: &[u8],
     base: u32,
@@ -63,7 +64,6 @@ pub extern "C" fn pijorrel_new_begin(
 }
 
 // Does count records, or fewer where the run ends.
-#[unsafe(no_mangle)]
 pub extern "C" fn pijorrel_new_run(
     records: &[u8],
     places: &[u8],

@@ -1,4 +1,6 @@
 // The old core for a loader in C: numbers and byte areas, numbers big-endian. Any bytes are a state.
+#![tactic(auto)]
+
 ghost use Rattle.std.specs.Prelude.{◌≡◌, List, ℕ};
 ghost use Rattle.machine.specs.Ends.{ending, ending_of};
 ghost use Rattle.windows.specs.Windows.{laid};
@@ -49,7 +51,6 @@ fn encode(regs: &mut File, c: OldControl, state: &mut [u8; OLD_STATE]) -> Ended
 }
 
 // Begins at an address: registers, flags, Y, nesting and windows stay.
-#[unsafe(no_mangle)]
 pub extern "C" fn pijorrel_old_begin(pc: u32, state: &mut [u8; OLD_STATE])
     ensures { state.new ≡ old_begins pc state.old }
 {
@@ -60,7 +61,6 @@ pub extern "C" fn pijorrel_old_begin(pc: u32, state: &mut [u8; OLD_STATE])
 }
 
 // Passes count words, or fewer where the run ends.
-#[unsafe(no_mangle)]
 pub extern "C" fn pijorrel_old_run(
     image: &[u8],
     base: u32,

@@ -1,4 +1,6 @@
 // The translator for a loader in C: numbers and byte areas, numbers big-endian. Any bytes and any lengths get an answer.
+#![tactic(auto)]
+
 ghost use Rattle.std.specs.Prelude.{◌≡◌, [], ◌∷◌, length};
 ghost use Rattle.model.specs.Translation.{answer_numbers, back, returned, translation};
 
@@ -42,7 +44,6 @@ fn numbers_of(a: Answer) -> PijorrelAnswer
 }
 
 // Translates an image from its entries into a place table and records.
-#[unsafe(no_mangle)]
 pub extern "C" fn pijorrel_translate(
     image: &[u8],
     base: u32,

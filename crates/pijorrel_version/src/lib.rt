@@ -1,4 +1,6 @@
 // Which interface this library has, for a loader in C that may have been compiled with another header.
+#![tactic(auto)]
+
 ghost use Rattle.std.specs.Prelude.{◌≡◌};
 ghost use Rattle.pijorrel_version.specs.Version.{version};
 
@@ -7,7 +9,6 @@ use states::{NEW_STATE, OLD_STATE};
 const REVISION: u32 = 1;
 
 // Equal to the header's PIJORREL_VERSION where the two fit.
-#[unsafe(no_mangle)]
 pub extern "C" fn pijorrel_version() -> u32
     ensures { result ≡ version }
 {

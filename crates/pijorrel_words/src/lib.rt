@@ -1,4 +1,6 @@
 // The reader and the writer of words for a planner in C: an instruction is six numbers, 24 bytes, big-endian.
+#![tactic(auto)]
+
 ghost use Rattle.std.specs.Prelude.{◌≡◌, ◌%◌, [], ◌∷◌};
 ghost use Rattle.words.specs.Reader.{format2_of};
 ghost use Rattle.words.specs.Writer.{written_of};
@@ -109,7 +111,6 @@ fn answer(w: Written) -> PijorrelWritten
 }
 
 // The word of an instruction, or a refusal.
-#[unsafe(no_mangle)]
 pub extern "C" fn pijorrel_write(instruction: &[u8; 24]) -> PijorrelWritten
     ensures { result.number ∷ result.value ∷ [] ≡ writes instruction.now }
 {
@@ -191,7 +192,6 @@ fn six_of(i: Instruction) -> Six
 }
 
 // The six numbers of the instruction that a word reads as; six zeros where it is not known.
-#[unsafe(no_mangle)]
 pub extern "C" fn pijorrel_read(word: u32, instruction: &mut [u8; 24])
     ensures { instruction.new ≡ reads word }
 {

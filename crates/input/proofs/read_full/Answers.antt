@@ -28,8 +28,7 @@ loop-n-preserved g c =
     let read = put_mid from room c.loop-n.buffer c.read.new.buf in
     let front = take-put_mid_below _ _ _ _ _ (le_refl _) within in
     let joined = take_split from (from + more) c.loop-n.buffer read (omega arith) front in
-    let part = middle_read from room more c.loop-n.buffer c.read.new.buf within c.in_ok-more.ensures.bound.0 in
-    (
+    let part = middle_read from room more c.loop-n.buffer c.read.new.buf within c.in_ok-more.ensures.bound.0 in (
       search rules,
       search rules,
       subst (Consumes _ _) (ap (λ l. take from c.loop-n.buffer ++ l) (sym part) ∙ joined) (Consumes-trans _ _ _ _ _ c.loop-n.invariant.2 c.in_ok-more.ensures.bytes.0),
