@@ -1,4 +1,6 @@
 // The translator: from an image and its entries, the place table and the records, or a refusal.
+#![tactic(auto)]
+
 ghost use Rattle.std.specs.Prelude.{◌≡◌, ◌*◌, ◌≤◌, length};
 ghost use Rattle.numbers.specs.Number.{numbers_of};
 ghost use Rattle.model.specs.Translation.{bad_length, bad_count, bad_entry, first_bad, place_room, from_walk, translation};

@@ -1,5 +1,4 @@
 use Rattle.machine.specs.Ends.{ending_of, settle}
-use borrow.Author.Rules.{rules}
 use Rattle.new_core.proofs.bad.Goals as goal
 
 pub returns : goal.returns

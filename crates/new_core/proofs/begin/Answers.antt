@@ -2,7 +2,6 @@ use Rattle.machine.specs.Ends.{ending_of}
 use Rattle.model.specs.Run.{zeroed}
 use Rattle.model.specs.NewCore.{begun_at, new_begun}
 use Rattle.new_core.specs.Sought.{sought_of}
-use borrow.Author.Rules.{rules}
 use Rattle.new_core.proofs.begin.Goals as goal
 
 pub returns-in-Record : goal.returns-in-Record

@@ -1,7 +1,6 @@
 use Rattle.machine.specs.Ends.{settle}
 use Rattle.model.specs.NewCore.{chooses}
 use borrow.Author.Tests.{le-leb, lt-leb}
-use borrow.Author.Rules.{rules}
 use Rattle.new_core.proofs.choose.Goals as goal
 
 pub returns-then-holds : goal.returns-then-holds

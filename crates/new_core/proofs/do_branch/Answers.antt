@@ -1,7 +1,6 @@
 use Rattle.machine.specs.Ends.{settle}
 use Rattle.model.proofs.Transfers.{annuls}
 use Rattle.new_core.proofs.Records.{never_taken, may_be_taken}
-use borrow.Author.Rules.{rules}
 use Rattle.new_core.proofs.do_branch.Goals as goal
 
 pub returns-then-annul : goal.returns-then-annul

@@ -2,7 +2,6 @@ use Rattle.effects.proofs.Effects.{effects_end, after_effect}
 use Rattle.effects.specs.Effect.{machine, Machine}
 use Rattle.model.specs.NewCore.{following, new}
 use mathlib.Core.Path.{◌∙◌}
-use borrow.Author.Rules.{rules}
 use Rattle.new_core.proofs.do_effect.Goals as goal
 
 pub returns-then-is_going : goal.returns-then-is_going

@@ -4,7 +4,6 @@ use Rattle.model.specs.Places.{may_be_held}
 use Rattle.model.specs.OldCore.{transfer_of}
 use Rattle.model.specs.NewCore.{fit}
 use Rattle.new_core.proofs.Records.{fits}
-use borrow.Author.Rules.{rules}
 use borrow.Enum.Refused.{opened}
 use Rattle.new_core.proofs.do_word.Goals as goal
 

@@ -1,5 +1,4 @@
 use Rattle.model.specs.NewCore.{following}
-use borrow.Author.Rules.{rules}
 use Rattle.new_core.proofs.follow.Goals as goal
 
 pub returns : goal.returns

@@ -1,7 +1,6 @@
 use Rattle.machine.specs.Ends.{settle}
 use Rattle.model.specs.NewCore.{goes}
 use Rattle.new_core.specs.Sought.{sought_of}
-use borrow.Author.Rules.{rules}
 use Rattle.new_core.proofs.go_held.Goals as goal
 
 pub returns-in-Record : goal.returns-in-Record

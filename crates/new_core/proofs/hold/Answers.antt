@@ -3,7 +3,6 @@ use Rattle.model.specs.OldCore.{transfer_of}
 use Rattle.model.specs.NewCore.{following, holds}
 use Rattle.new_core.proofs.Records.{not_held}
 use borrow.Author.Tests.{eq-eqb, ne_eqb}
-use borrow.Author.Rules.{rules}
 use borrow.Enum.Refused.{opened}
 use Rattle.new_core.proofs.hold.Goals as goal
 

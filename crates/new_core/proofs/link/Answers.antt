@@ -1,4 +1,3 @@
-use borrow.Author.Rules.{rules}
 use Rattle.new_core.proofs.link.Goals as goal
 
 pub returns : goal.returns

@@ -1,6 +1,5 @@
 use Rattle.model.specs.NewCore.{new_next, does}
 use Rattle.new_core.proofs.Records.{at_hand, past_last}
-use borrow.Author.Rules.{rules}
 use Rattle.new_core.proofs.proceed.Goals as goal
 
 pub returns-then-n-records : goal.returns-then-n-records

@@ -1,14 +1,11 @@
-use Rattle.model.specs.Records.{rows_in}
-use Rattle.model.specs.NewCore.{seek}
 use Rattle.new_core.specs.Sought.{sought_of}
-use borrow.Author.Rules.{rules}
-use lib.ListN.{length, drop}
+use lib.ListN.{length}
 use native.Mathlib.Omega.{arith}
-use mathlib.Core.Logic.{⊎_elim}
-use mathlib.Core.Path.{◌≡◌, refl, sym, ◌∙◌}
-use Prim.Native.Nat.{◌-◌, ◌/◌, ◌≤◌, ◌<◌}
+use mathlib.Core.Path.{refl, sym, ◌∙◌}
+use Prim.Native.Nat.{◌/◌, ◌<◌}
 use Rattle.new_core.proofs.Records.{sought_here, not_plain, elsewhere, not_anywhere}
 use Rattle.new_core.proofs.search.Goals as goal
+use Rattle.new_core.proofs.search.Goals.{then-read_number-a+else-read_number-eq0, else-read_number-a}
 
 pub loop-i-init : goal.loop-i-init
 loop-i-init c = (omega arith, refl)
@@ -22,9 +19,10 @@ pub loop-i-preserved : goal.loop-i-preserved
 loop-i-preserved c = let b = c.loop-i in
     let k = c.args in
     let h : b.i < length k.places.now / 16 = omega arith in
-    ⊎_elim (λ w. (omega arith, not_plain k.places.now k.a.0 b.i h (λ e. w.2.left (w.1.ensures ∙ e)) ∙ b.invariant.1))
-    (λ w. (omega arith, elsewhere k.places.now k.a.0 b.i h (λ e. w.left (c.read_number.ensures ∙ e)) ∙ b.invariant.1))
-    c.if-read_number-a.branch
+    elim c.if-read_number-a.branch [
+      | then-read_number-a+else-read_number-eq0 w ↦ (omega arith, not_plain k.places.now k.a.0 b.i h (λ e. w.if-read_number-eq0.false (w.read_number-then-read_number-a.ensures ∙ e)) ∙ b.invariant.1)
+      | else-read_number-a w ↦ (omega arith, elsewhere k.places.now k.a.0 b.i h (λ e. w.if-read_number-a.false (c.read_number.ensures ∙ e)) ∙ b.invariant.1)
+    ]
 
 pub returns : goal.returns
 unfolding sought_of

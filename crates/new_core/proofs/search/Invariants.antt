@@ -1,13 +1,8 @@
 use Rattle.model.specs.Records.{rows_in}
 use Rattle.model.specs.NewCore.{seek}
-use Rattle.new_core.specs.Sought.{sought_of}
-use borrow.Author.Rules.{rules}
 use lib.ListN.{length, drop}
-use native.Mathlib.Omega.{arith}
-use mathlib.Core.Logic.{⊎_elim}
-use mathlib.Core.Path.{◌≡◌, refl, sym, ◌∙◌}
-use Prim.Native.Nat.{◌-◌, ◌/◌, ◌≤◌, ◌<◌}
-use Rattle.new_core.proofs.Records.{sought_here, not_plain, elsewhere, not_anywhere}
+use mathlib.Core.Path.{◌≡◌}
+use Prim.Native.Nat.{◌-◌, ◌/◌, ◌≤◌}
 use Rattle.new_core.proofs.search.Given as goal
 
 abbrev pub invariant-loop-i : goal.invariant-loop-i

@@ -1,13 +1,8 @@
-use Rattle.model.proofs.Runs.{run_on, run_done, run_ended, step_going}
 use Rattle.model.specs.Run.{run}
 use Rattle.model.specs.NewCore.{new_next}
 use Rattle.states.specs.NewState.{new_state}
-use borrow.Author.Tests.{not-true, not-false}
-use borrow.Author.Rules.{rules}
 use lib.ListN.{length}
-use native.Mathlib.Nat.{sub-zero}
-use native.Mathlib.Omega.{arith}
-use mathlib.Core.Path.{◌≡◌, refl, sym, ◌∙◌}
+use mathlib.Core.Path.{◌≡◌}
 use Prim.Native.Nat.{◌-◌, ◌≤◌}
 use Rattle.new_core.proofs.steps.Given as goal
 

@@ -1,7 +1,6 @@
 use Rattle.machine.specs.Ends.{ending_of, settle}
 use Rattle.model.specs.NewCore.{stops}
 use borrow.Author.Tests.{ne_eqb}
-use borrow.Author.Rules.{rules}
 use Rattle.new_core.proofs.stop_as.Goals as goal
 
 pub returns-in-2 : goal.returns-in-2

@@ -2,7 +2,6 @@ use Rattle.model.specs.Run.{zeroed}
 use Rattle.machine.specs.Ends.{ending_of}
 use Rattle.model.specs.OldCore.{old_begun}
 use Rattle.model.specs.StateBytes.{is_set}
-use borrow.Author.Rules.{rules}
 use Rattle.old_core.proofs.begin.Goals as goal
 
 pub returns : goal.returns

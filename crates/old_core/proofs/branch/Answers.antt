@@ -1,7 +1,6 @@
 use Rattle.old_core.proofs.Words.{branch_always, branch_taken, branch_fails}
 use mathlib.Core.Path.{sym, ◌∙◌}
 use borrow.Author.Tests.{eq-eqb, ne_eqb}
-use borrow.Author.Rules.{rules}
 use Rattle.old_core.proofs.branch.Goals as goal
 
 pub returns-then-cond-eq8 : goal.returns-then-cond-eq8

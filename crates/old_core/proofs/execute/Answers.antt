@@ -6,7 +6,6 @@ use Rattle.machine.specs.Ends.{ending_of, settle}
 use Rattle.model.specs.OldCore.{transfer_of, executes, follows, old}
 use Rattle.model.specs.StateBytes.{is_set}
 use Rattle.states.specs.OldState.{old_of}
-use borrow.Author.Rules.{rules}
 use borrow.Enum.Refused.{opened}
 use Rattle.old_core.proofs.execute.Goals as goal
 

@@ -1,7 +1,6 @@
 use Rattle.machine.specs.Ends.{ending_of, settle}
 use Rattle.model.specs.OldCore.{in_image, word_in, fetches}
 use borrow.Author.Tests.{lt-leb, eq-eqb, ne_eqb, le-leb}
-use borrow.Author.Rules.{rules}
 use Rattle.old_core.proofs.fetch.Goals as goal
 
 pub returns-then-at-image : goal.returns-then-at-image

@@ -1,4 +1,3 @@
-use borrow.Author.Rules.{rules}
 use Rattle.old_core.proofs.finish.Goals as goal
 
 pub returns-then-is_going : goal.returns-then-is_going

@@ -1,7 +1,6 @@
 use Rattle.model.specs.OldCore.{follows}
 use Rattle.model.specs.StateBytes.{is_set}
 use mathlib.Core.Path.{◌∙◌}
-use borrow.Author.Rules.{rules}
 use Rattle.old_core.proofs.follow.Goals as goal
 
 pub returns : goal.returns

@@ -2,7 +2,6 @@ use Rattle.machine.specs.Ends.{ending_of, settle}
 use Rattle.model.specs.OldCore.{jumps}
 use Rattle.model.specs.StateBytes.{is_set}
 use borrow.Author.Tests.{eq-eqb, ne_eqb}
-use borrow.Author.Rules.{rules}
 use Rattle.old_core.proofs.jump.Goals as goal
 
 pub returns-then-t-eq0 : goal.returns-then-t-eq0

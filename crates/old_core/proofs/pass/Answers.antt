@@ -1,7 +1,6 @@
 use Rattle.old_core.proofs.Words.{annulled, not_annulled, is_set_lem, is_clear}
 use mathlib.Core.Path.{sym, ap, ◌∙◌}
 use Rattle.machine.specs.Ends.{settle}
-use borrow.Author.Rules.{rules}
 use Rattle.old_core.proofs.pass.Goals as goal
 
 pub returns-then-c-ne0 : goal.returns-then-c-ne0

@@ -7,6 +7,5 @@ use Rattle.pijorrel_words.proofs.pijorrel_read.Goals as goal
 
 pub returns : goal.returns
 unfolding reads
-returns c =
-    let l : length c.args.instruction.now ≡ 24 = omega arith in
+returns c = let l : length c.args.instruction.now ≡ 24 = omega arith in
     rw (← c.read_instruction.ensures, ← c.six_of-s.ensures) (filled c.args.instruction.now _ _ l refl c.write_numbers.ensures)

@@ -11,12 +11,12 @@ returns-then-k-eq2 c = rw (eq-eqb _ _ c.if-k-eq2.true) c.write2.ensures
 pub returns-then-is_form3 : goal.returns-then-is_form3
 unfolding by_op
 returns-then-is_form3 c =
-    rw (ne_eqb _ _ c.if-k-eq2.false, eq-eqb _ _ c.if-k-eq3.true, form_3 _ _ _ _, ← c.is_form3.ensures _ _ _, c.if-is_form3.true) c.long_word.ensures
+    rw (ne_eqb _ _ c.if-k-eq2.false, eq-eqb _ _ c.if-k-eq3.true, form_3 _ _ _ _, ← c.is_form3.ensures _ _ _, c.if-is_form3.true)
+    c.long_word.ensures
 
 pub returns-else-is_form3 : goal.returns-else-is_form3
 unfolding by_op
-returns-else-is_form3 c =
-    rw (ne_eqb _ _ c.if-k-eq2.false, eq-eqb _ _ c.if-k-eq3.true, form_3 _ _ _ _, ← c.is_form3.ensures _ _ _, c.if-is_form3.false)
+returns-else-is_form3 c = rw (ne_eqb _ _ c.if-k-eq2.false, eq-eqb _ _ c.if-k-eq3.true, form_3 _ _ _ _, ← c.is_form3.ensures _ _ _, c.if-is_form3.false)
 
 pub returns-else-k-eq3 : goal.returns-else-k-eq3
 unfolding by_op written_of

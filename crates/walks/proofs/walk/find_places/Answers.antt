@@ -1,6 +1,5 @@
 use Rattle.walks.proofs.Walking.{ready_places, known_by, ended_forbidden, ended_full, from_entries, grown_places, grown_forbidden, grown_full}
 use mathlib.Core.Path.{sym, ◌∙◌}
-use borrow.Author.Rules.{rules}
 use Rattle.walks.proofs.walk.find_places.Goals as goal
 
 pub walk-requires : goal.walk-requires

@@ -4,7 +4,6 @@ use mathlib.Core.Path.{refl}
 use Rattle.walks.specs.Walk.{seen}
 use Rattle.places.specs.Table.{place_in}
 use Rattle.walks.proofs.Walking.{known_by, still, held_known, handled_outside, handled_held, handled_pair}
-use borrow.Author.Rules.{rules}
 use Rattle.walks.proofs.walk.handle.Goals as goal
 
 pub returns-then-is_held : goal.returns-then-is_held

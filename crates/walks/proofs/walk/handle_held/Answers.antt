@@ -1,4 +1,3 @@
-use borrow.Author.Rules.{rules}
 use Rattle.walks.proofs.walk.handle_held.Goals as goal
 
 pub returns-then-may_be_held : goal.returns-then-may_be_held

@@ -1,15 +1,6 @@
-use Rattle.numbers.specs.Number.{numbers_of}
-use Rattle.model.specs.Walk.{grow}
-use Rattle.model.specs.Places.{plains}
 use Rattle.walks.proofs.Walking.{ready_places, ended_forbidden, ended_full, still, start_turn, start_end, start_none, grown_places, grown_forbidden, grown_full}
-use Rattle.places.specs.Table.{places_in}
-use Rattle.places.specs.Index.{Ready}
-use borrow.Author.Rules.{rules}
-use lib.ListN.{length, drop}
 use native.Mathlib.Omega.{arith}
-use mathlib.Core.List.{[]}
-use mathlib.Core.Path.{◌≡◌, refl, sym, ◌∙◌}
-use Prim.Native.Nat.{◌-◌}
+use mathlib.Core.Path.{refl, sym, ◌∙◌}
 use Rattle.walks.proofs.walk.start.Goals as goal
 
 pub loop-j-init : goal.loop-j-init

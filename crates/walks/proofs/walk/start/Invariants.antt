@@ -1,14 +1,11 @@
 use Rattle.numbers.specs.Number.{numbers_of}
 use Rattle.model.specs.Walk.{grow}
 use Rattle.model.specs.Places.{plains}
-use Rattle.walks.proofs.Walking.{ready_places, ended_forbidden, ended_full, still, start_turn, start_end, start_none, grown_places, grown_forbidden, grown_full}
 use Rattle.places.specs.Table.{places_in}
 use Rattle.places.specs.Index.{Ready}
-use borrow.Author.Rules.{rules}
 use lib.ListN.{length, drop}
-use native.Mathlib.Omega.{arith}
 use mathlib.Core.List.{[]}
-use mathlib.Core.Path.{◌≡◌, refl, sym, ◌∙◌}
+use mathlib.Core.Path.{◌≡◌}
 use Prim.Native.Nat.{◌-◌}
 use Rattle.walks.proofs.walk.start.Given as goal
 

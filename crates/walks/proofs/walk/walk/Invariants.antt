@@ -1,12 +1,8 @@
 use Rattle.model.specs.Walk.{walk}
-use Rattle.walks.proofs.Walking.{ready_places, ended_forbidden, ended_full, still, grown_places, grown_forbidden, grown_full, walk_on, walk_end}
 use Rattle.places.specs.Table.{places_in}
 use Rattle.places.specs.Index.{Ready}
-use borrow.Author.Rules.{rules}
 use lib.ListN.{length}
-use native.Mathlib.Nat.{sub-zero}
-use native.Mathlib.Omega.{arith}
-use mathlib.Core.Path.{◌≡◌, refl, sym, ◌∙◌}
+use mathlib.Core.Path.{◌≡◌}
 use Prim.Native.Nat.{suc, ◌-◌, ◌≤◌}
 use Rattle.walks.proofs.walk.walk.Given as goal
 

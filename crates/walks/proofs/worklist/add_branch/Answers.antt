@@ -1,6 +1,5 @@
 use Rattle.model.proofs.Branches.{never_names, always_names, always_annuls, depends_names}
 use Rattle.walks.proofs.Walking.{known_append}
-use borrow.Author.Rules.{rules}
 use Rattle.walks.proofs.worklist.add_branch.Goals as goal
 
 pub returns-then-cond-eq0 : goal.returns-then-cond-eq0

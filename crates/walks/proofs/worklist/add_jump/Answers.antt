@@ -2,7 +2,6 @@ use Rattle.model.specs.Places.{names}
 use Rattle.places.specs.Control.{transferred}
 use Rattle.walks.proofs.Walking.{known_returns}
 use borrow.Author.Tests.{eq-eqb, ne_eqb}
-use borrow.Author.Rules.{rules}
 use Rattle.walks.proofs.worklist.add_jump.Goals as goal
 
 pub returns-then-rd-eq0 : goal.returns-then-rd-eq0

@@ -4,7 +4,6 @@ use Rattle.places.specs.Control.{transferred}
 use Rattle.walks.specs.Walk.{seen}
 use Rattle.walks.proofs.Walking.{still, known_returns}
 use mathlib.Core.Path.{refl}
-use borrow.Author.Rules.{rules}
 use Rattle.walks.proofs.worklist.add_names.Goals as goal
 
 pub returns-in-Faults : goal.returns-in-Faults

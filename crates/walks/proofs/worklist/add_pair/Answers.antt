@@ -1,6 +1,5 @@
 use Rattle.places.proofs.Rows.{place_pair, shows_pair}
 use Rattle.walks.proofs.Walking.{known_place}
-use borrow.Author.Rules.{rules}
 use Rattle.walks.proofs.worklist.add_pair.Goals as goal
 
 pub add-m-requires : goal.add-m-requires

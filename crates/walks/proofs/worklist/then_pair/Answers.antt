@@ -1,6 +1,5 @@
 use Rattle.walks.proofs.Walking.{ready_places, known_by, ended_forbidden, ended_full, grown_places, grown_forbidden, grown_full}
 use mathlib.Core.Path.{sym}
-use borrow.Author.Rules.{rules}
 use Rattle.walks.proofs.worklist.then_pair.Goals as goal
 
 pub add_pair-requires : goal.add_pair-requires

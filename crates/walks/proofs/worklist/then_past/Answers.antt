@@ -2,7 +2,6 @@ use Rattle.model.specs.Walk.{grow}
 use Rattle.walks.specs.Walk.{seen}
 use Rattle.walks.proofs.Walking.{ready_places, known_by, still, ended_forbidden, ended_full, grown_places, grown_forbidden, grown_full}
 use mathlib.Core.Path.{sym}
-use borrow.Author.Rules.{rules}
 use Rattle.walks.proofs.worklist.then_past.Goals as goal
 
 pub add_plain-requires : goal.add_plain-requires
