@@ -1,8 +1,13 @@
 // Files of cases: numbers of four bytes, big-endian, and byte areas padded to a multiple of four.
-ghost use Rattle.std.specs.Prelude.{◌≡◌, ◌+◌, ◌≤◌, ◌<◌, ◌^◌, min, length, get_or};
+#![tactic(auto)]
+
+ghost use Rattle.std.specs.Prelude.{◌≡◌, ◌+◌, ◌≤◌, ◌<◌, ◌^◌, min, length, get_or, IfOk};
 ghost use Rattle.case_files.specs.Files.{number_in, part_of, padded_to, copied, holding, one_entry, old_parts};
 
 use states::OLD_STATE;
+use std::fs::File;
+use std::io;
+use std::rt::Files;
 
 // What is found of a case: where the next one starts, how many of its entries agree before one that does not, and whether all agrees,
 // with what is no entry, as the data after the last.
@@ -36,18 +41,15 @@ pub struct Parts {
     pub next: usize,
 }
 
-// Reads a file into a buffer, and answers how many bytes it has: which bytes they are, no contract can say.
-pub fn load(path: &[u8], buffer: &mut [u8]) -> usize
-    ensures { (length buffer.new ≡ length buffer.old) × (result ≤ length buffer.new) }
+// Reads a file into a buffer, and answers how many bytes it has: which bytes they are, no contract can say. A path that is no text has no
+// file. An error leaves the buffer as long as it is.
+pub fn load<R: Files>(rt: &R, path: &[u8], buffer: &mut [u8]) -> io::Result<usize>
+    ensures kept { length buffer.new ≡ length buffer.old }
+    ensures fits { IfOk result (λ n. n ≤ length buffer.new) }
 {
-    let fd = os::open_read(path);
-    if fd < 0 {
-        os::fail(path);
-        return 0;
-    }
-    let n = io::read_full(fd, buffer);
-    libc::close(fd);
-    n
+    let name = str::from_utf8(path).map_err(|_| io::ErrorKind::NotFound)?;
+    let mut file = File::open(rt, name)?;
+    input::read_full(&mut file, buffer)
 }
 
 // The number at a position, or 0 where the file is shorter.

@@ -1,10 +1,13 @@
 // Runs the library on files of cases with known answers, and says how many agree and which do not.
+#![tactic(auto)]
+
 ghost use Rattle.std.specs.Prelude.{◌≡◌, ◌+◌, ◌≤◌, length, replicate};
 ghost use Rattle.case_files.specs.Files.{number_in};
 ghost use Rattle.cases.specs.Kinds.{size_at, ran, found};
 
 use case_files::Found;
-use libc::STDOUT_FILENO;
+use std::io;
+use std::rt::Files;
 
 // The most bytes of a file that are read.
 const LARGEST: usize = 1048576;
@@ -24,20 +27,6 @@ enum Kind {
     Translation,
     Listing,
     Words,
-}
-
-fn say(text: &[u8]) {
-    io::write_all(STDOUT_FILENO, text);
-}
-
-fn say_number(n: u64) {
-    io::print_decimal(STDOUT_FILENO, n);
-}
-
-fn say_case(name: &[u8], k: u32) {
-    say(name);
-    say(b": case ");
-    say_number(k as u64);
 }
 
 // Zeros for a case's data, which may be more than the 65,536 bytes that exist.
@@ -88,7 +77,7 @@ fn check(kind: Kind, bytes: &[u8], at: usize) -> Found
 }
 
 // Runs the cases of a file, reports those that differ or are cut off, and answers how many entries agree.
-fn agreeing(kind: Kind, name: &[u8], bytes: &[u8]) -> u64 {
+fn agreeing(rt: &impl Print, kind: Kind, name: &str, bytes: &[u8]) -> io::Result<u64> {
     let count = case_files::number(bytes, 0);
     let mut entries: u64 = 0;
     let mut at: usize = 4;
@@ -97,57 +86,63 @@ fn agreeing(kind: Kind, name: &[u8], bytes: &[u8]) -> u64 {
         let found = check(kind, bytes, at);
         at = found.next;
         if bytes.len() < at {
-            say_case(name, k);
-            say(b" is cut off\n");
-            return entries;
+            println!(rt; "{name}: case {k} is cut off")?;
+            return Ok(entries);
         }
+        let agreed = found.entries;
         if !found.agrees {
-            say_case(name, k);
-            say(b" differs at entry ");
-            say_number(found.entries as u64);
-            say(b"\n");
+            println!(rt; "{name}: case {k} differs at entry {agreed}")?;
         }
-        entries += found.entries as u64;
+        entries += agreed as u64;
         k += 1;
     }
-    entries
+    Ok(entries)
 }
 
 // Runs a file, and says how many entries of how many cases agree, with the words that go between and after.
-fn run_with(kind: Kind, name: &[u8], buffer: &mut [u8; LARGEST], between: &[u8], after: &[u8]) {
-    let n = case_files::load(name, buffer);
+fn run_with<R: Files + Print>(
+    rt: &R,
+    kind: Kind,
+    name: &str,
+    buffer: &mut [u8; LARGEST],
+    between: &str,
+    after: &str,
+) -> io::Result<()> {
+    let n = case_files::load(rt, name.as_bytes(), buffer)?;
     let bytes = case_files::part(buffer, 0, n);
-    let entries = agreeing(kind, name, bytes);
-    say(name);
-    say(b": ");
-    say_number(entries);
-    say(between);
-    say_number(case_files::number(bytes, 0) as u64);
-    say(after);
+    let entries = agreeing(rt, kind, name, bytes)?;
+    let count = case_files::number(bytes, 0);
+    println!(rt; "{name}: {entries}{between}{count}{after}")
 }
 
 // The same for cases of one entry each.
-fn run(kind: Kind, name: &[u8], buffer: &mut [u8; LARGEST]) {
-    run_with(kind, name, buffer, b" of ", b" agree\n");
+fn run<R: Files + Print>(
+    rt: &R,
+    kind: Kind,
+    name: &str,
+    buffer: &mut [u8; LARGEST],
+) -> io::Result<()> {
+    run_with(rt, kind, name, buffer, " of ", " agree")
 }
 
-fn main() {
+fn main(rt: HostRuntime) -> io::Result<()> {
     let mut buffer = [0u8; LARGEST];
-    run(Kind::Runs(Core::Old), b"old_core.bin", &mut buffer);
-    run(Kind::Runs(Core::Old), b"old_core_base.bin", &mut buffer);
-    run(Kind::Runs(Core::Old), b"old_core_edges.bin", &mut buffer);
-    run(Kind::Runs(Core::New), b"new_core.bin", &mut buffer);
-    run(Kind::Runs(Core::New), b"new_core_base.bin", &mut buffer);
-    run(Kind::Runs(Core::New), b"new_core_edges.bin", &mut buffer);
+    run(&rt, Kind::Runs(Core::Old), "old_core.bin", &mut buffer)?;
+    run(&rt, Kind::Runs(Core::Old), "old_core_base.bin", &mut buffer)?;
+    run(&rt, Kind::Runs(Core::Old), "old_core_edges.bin", &mut buffer)?;
+    run(&rt, Kind::Runs(Core::New), "new_core.bin", &mut buffer)?;
+    run(&rt, Kind::Runs(Core::New), "new_core_base.bin", &mut buffer)?;
+    run(&rt, Kind::Runs(Core::New), "new_core_edges.bin", &mut buffer)?;
     run_with(
+        &rt,
         Kind::Runs(Core::Trail),
-        b"trails.bin",
+        "trails.bin",
         &mut buffer,
-        b" entries of ",
-        b" programs agree\n",
-    );
-    run(Kind::Translation, b"translate.bin", &mut buffer);
-    run(Kind::Translation, b"edges.bin", &mut buffer);
-    run(Kind::Listing, b"listings.bin", &mut buffer);
-    run(Kind::Words, b"words.bin", &mut buffer);
+        " entries of ",
+        " programs agree",
+    )?;
+    run(&rt, Kind::Translation, "translate.bin", &mut buffer)?;
+    run(&rt, Kind::Translation, "edges.bin", &mut buffer)?;
+    run(&rt, Kind::Listing, "listings.bin", &mut buffer)?;
+    run(&rt, Kind::Words, "words.bin", &mut buffer)
 }

@@ -48,8 +48,7 @@ fn encode(regs: &mut File, c: NewControl, state: &mut [u8; NEW_STATE]) -> Ended
 }
 
 // Begins at an address: registers, flags, Y, nesting and windows stay.
-#[unsafe(no_mangle)]
-pub extern "C" fn pijorrel_new_begin(
+pub fn pijorrel_new_begin(
     places: &[u8],
     base: u32,
     size: u32,
@@ -65,8 +64,7 @@ pub extern "C" fn pijorrel_new_begin(
 }
 
 // Does count records, or fewer where the run ends.
-#[unsafe(no_mangle)]
-pub extern "C" fn pijorrel_new_run(
+pub fn pijorrel_new_run(
     records: &[u8],
     places: &[u8],
     base: u32,

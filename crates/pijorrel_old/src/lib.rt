@@ -51,8 +51,7 @@ fn encode(regs: &mut File, c: OldControl, state: &mut [u8; OLD_STATE]) -> Ended
 }
 
 // Begins at an address: registers, flags, Y, nesting and windows stay.
-#[unsafe(no_mangle)]
-pub extern "C" fn pijorrel_old_begin(pc: u32, state: &mut [u8; OLD_STATE])
+pub fn pijorrel_old_begin(pc: u32, state: &mut [u8; OLD_STATE])
     ensures { state.new ≡ old_begins pc state.old }
 {
     let mut regs = [0u32; FILE];
@@ -62,8 +61,7 @@ pub extern "C" fn pijorrel_old_begin(pc: u32, state: &mut [u8; OLD_STATE])
 }
 
 // Passes count words, or fewer where the run ends.
-#[unsafe(no_mangle)]
-pub extern "C" fn pijorrel_old_run(
+pub fn pijorrel_old_run(
     image: &[u8],
     base: u32,
     db: u32,

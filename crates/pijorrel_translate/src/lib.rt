@@ -44,8 +44,7 @@ fn numbers_of(a: Answer) -> PijorrelAnswer
 }
 
 // Translates an image from its entries into a place table and records.
-#[unsafe(no_mangle)]
-pub extern "C" fn pijorrel_translate(
+pub fn pijorrel_translate(
     image: &[u8],
     base: u32,
     entries: &[u8],

@@ -9,8 +9,7 @@ use states::{NEW_STATE, OLD_STATE};
 const REVISION: u32 = 1;
 
 // Equal to the header's PIJORREL_VERSION where the two fit.
-#[unsafe(no_mangle)]
-pub extern "C" fn pijorrel_version() -> u32
+pub fn pijorrel_version() -> u32
     ensures { result ≡ version }
 {
     (REVISION * 1024 + OLD_STATE as u32) * 1024 + NEW_STATE as u32

@@ -111,8 +111,7 @@ fn answer(w: Written) -> PijorrelWritten
 }
 
 // The word of an instruction, or a refusal.
-#[unsafe(no_mangle)]
-pub extern "C" fn pijorrel_write(instruction: &[u8; 24]) -> PijorrelWritten
+pub fn pijorrel_write(instruction: &[u8; 24]) -> PijorrelWritten
     ensures { result.number ∷ result.value ∷ [] ≡ writes instruction.now }
 {
     let form = numbers::read_number(instruction, 0);
@@ -193,8 +192,7 @@ fn six_of(i: Instruction) -> Six
 }
 
 // The six numbers of the instruction that a word reads as; six zeros where it is not known.
-#[unsafe(no_mangle)]
-pub extern "C" fn pijorrel_read(word: u32, instruction: &mut [u8; 24])
+pub fn pijorrel_read(word: u32, instruction: &mut [u8; 24])
     ensures { instruction.new ≡ reads word }
 {
     let s = six_of(words::read_instruction(word));
