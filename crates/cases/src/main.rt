@@ -129,10 +129,20 @@ fn main(rt: HostRuntime) -> io::Result<()> {
     let mut buffer = [0u8; LARGEST];
     run(&rt, Kind::Runs(Core::Old), "old_core.bin", &mut buffer)?;
     run(&rt, Kind::Runs(Core::Old), "old_core_base.bin", &mut buffer)?;
-    run(&rt, Kind::Runs(Core::Old), "old_core_edges.bin", &mut buffer)?;
+    run(
+        &rt,
+        Kind::Runs(Core::Old),
+        "old_core_edges.bin",
+        &mut buffer,
+    )?;
     run(&rt, Kind::Runs(Core::New), "new_core.bin", &mut buffer)?;
     run(&rt, Kind::Runs(Core::New), "new_core_base.bin", &mut buffer)?;
-    run(&rt, Kind::Runs(Core::New), "new_core_edges.bin", &mut buffer)?;
+    run(
+        &rt,
+        Kind::Runs(Core::New),
+        "new_core_edges.bin",
+        &mut buffer,
+    )?;
     run_with(
         &rt,
         Kind::Runs(Core::Trail),
