@@ -8,9 +8,9 @@
 #include "pijorrel.h"
 
 enum {
-    REGISTERS_AND_FLAGS = 4 * (PIJORREL_OLD_FLAGS + 1),       /* the first bytes of both states */
-    Y_AND_WINDOWS = PIJORREL_OLD_STATE - 4 * PIJORREL_OLD_Y,  /* the last ones: Y, the nesting and the windows */
-    MOST_STEPS = 2                                            /* from an entry to the next, or to the end */
+    REGISTERS_AND_FLAGS = 132, /* the first bytes of both states */
+    Y_AND_WINDOWS = 520,       /* the last ones: Y, the nesting and the windows */
+    MOST_STEPS = 2             /* from an entry to the next, or to the end */
 };
 
 /* An accepted image and its translation, just the places and records counted. */

@@ -1,45 +1,49 @@
-/* What the programs here share: how they are called, numbers and files, what they leave with, ends in words. */
+/* What the examples share: numbers in bytes, files, and the ends of a run in words. */
 #ifndef SHARED_H
 #define SHARED_H
 
 #include <stddef.h>
 #include <stdint.h>
+#include <stdio.h>
+#include <stdlib.h>
 
-/* What a program leaves with. An end other than 1 has a status of its own, 10 more than its number. */
-enum {
-    DONE = 0,         /* the run ended by its own trap, end 1 */
-    REFUSED = 1,      /* the library refuses, by a number that is told */
-    UNUSABLE = 2,     /* the command line is wrong, a file cannot be read, or the output cannot be written */
-    DIFFERENT = 3,    /* the cores differ */
-    STILL_GOING = 10  /* the count ran out before the run ended */
-};
+/* The number at a position of an area of numbers. */
+static inline uint32_t number_at(const uint8_t *bytes, size_t position)
+{
+    const uint8_t *at = bytes + 4 * position;
+    return (uint32_t)at[0] << 24 | (uint32_t)at[1] << 16 | (uint32_t)at[2] << 8 | at[3];
+}
 
-#define STATUSES_OF_ENDS "  10  the count ran out and the run is still going\n" \
-                         "  12 to 19  the run ended otherwise, with 2 to 9\n"
+static inline void put_number(uint8_t *bytes, size_t position, uint32_t number)
+{
+    for (int i = 0; i < 4; i++)
+        bytes[4 * position + i] = (uint8_t)(number >> (24 - 8 * i));
+}
 
-/* What -h prints; each program has its own. */
-extern const char usage[];
+/* Reads a file of at most so many bytes; leaves the program with 2 if that cannot be done. */
+static inline size_t load(const char *path, uint8_t *bytes, size_t most)
+{
+    FILE *file = fopen(path, "rb");
+    if (!file) {
+        perror(path);
+        exit(2);
+    }
+    size_t length = fread(bytes, 1, most, file);
+    int more = length == most && getc(file) != EOF, failed = ferror(file);
+    fclose(file);
+    if (more || failed) {
+        fprintf(stderr, more ? "%s has more than %zu bytes\n" : "%s cannot be read\n", path, most);
+        exit(2);
+    }
+    return length;
+}
 
-/* To be called first: answers -h and --help, and stops where the library is of another version than the header. */
-void open_program(int count, char **words);
-
-/* To be called last: the status, or UNUSABLE where not all of the output could be written. */
-int leave(int status);
-
-/* Leaves with UNUSABLE after saying why, in the manner of printf. */
-void give_up(const char *why, ...);
-
-int status_of_end(uint32_t end);
-const char *words_of_end(uint32_t end);
-
-/* A number from 0 to most, decimal or hexadecimal after 0x, and nothing else; gives up on any other text, and on NULL. */
-uint64_t number_of(const char *text, uint64_t most);
-
-/* A number of 32 bits; a negative one, from -2^31 on, is taken modulo 2^32. */
-uint32_t signed_number_of(const char *text);
-
-/* Reads a file of at most so many bytes; gives up if that cannot be done. An image is raw words and no ELF file. */
-size_t load(const char *path, uint8_t *bytes, size_t most);
-size_t load_image(const char *path, uint8_t *bytes, size_t most);
+static inline const char *words_of_end(uint32_t end)
+{
+    static const char *const ends[] = { "still going", "trap taken", "outside the image", "illegal word", "misaligned",
+                                        "data access that does not fit", "no place", "bad record", "too many saves",
+                                        "too many restores" };
+    return end < 10 ? ends[end] : "no end";
+}
 
 #endif
