@@ -13,7 +13,7 @@ import re
 import sys
 
 WORD = r"[^\s(){}.;:,@\"«»\[\]`]+"
-DECLARED = re.compile(r"^ {0,4}((?:(?:pub|abbrev|unfoldable|ruleset|data|record)\s+)*)(" + WORD + r")\s*:(?=\s)")
+DECLARED = re.compile(r"^ {0,12}((?:(?:pub|abbrev|unfoldable|ruleset|data|record)\s+)*)(" + WORD + r")\s*:(?=\s)")
 # Chosen by hand: two fields that a definition would hide, and names that would else fall together.
 CHOSEN = {"in_image": "address_in_image", "same_bytes": "same_area", "byHeld": "by_held", "noJmpl": "is_no_jmpl"}
 KEYWORDS = {"use", "let", "in", "module", "mod", "where", "field"}

@@ -141,23 +141,23 @@ module _ (image : List ℕ) (base : ℕ) where
 
     module _ (f i : ℕ) (ps qs : List Place) (q : Q i ps)
         (ih : (rs : List Place) → Q (suc i) rs → walk image base f cap (suc i) rs ≡ table qs → Reached qs) where
-      keep-grown : (x : Place) → get_elem? ps i ≡ some x → allowed image base x ≡ true → (y : Walked) → grow cap ps (followers image base x) ≡ y
+      keep_grown : (x : Place) → get_elem? ps i ≡ some x → allowed image base x ≡ true → (y : Walked) → grow cap ps (followers image base x) ≡ y
           → grown (walk image base f cap (suc i)) y ≡ table qs → Reached qs
       unfolding grown
-      keep-grown x g a (table rs) u v = ih rs (keep i ps rs x g a u q) v
-      keep-grown x g a (refused c b) u v = not_refused c b qs v
-      keep-grown x g a endless u v = not_endless qs v
+      keep_grown x g a (table rs) u v = ih rs (keep i ps rs x g a u q) v
+      keep_grown x g a (refused c b) u v = not_refused c b qs v
+      keep_grown x g a endless u v = not_endless qs v
 
-      keep-test : (x : Place) → get_elem? ps i ≡ some x → (b : Bool) → allowed image base x ≡ b
+      keep_test : (x : Place) → get_elem? ps i ≡ some x → (b : Bool) → allowed image base x ≡ b
           → tested image base (walk image base f cap (suc i)) cap ps x b ≡ table qs → Reached qs
       unfolding tested
-      keep-test x g false a v = not_refused 4 (place_at x) qs v
-      keep-test x g true a v = keep-grown x g a (grow cap ps (followers image base x)) refl v
+      keep_test x g false a v = not_refused 4 (place_at x) qs v
+      keep_test x g true a v = keep_grown x g a (grow cap ps (followers image base x)) refl v
 
       keep_at : (o : Option Place) → get_elem? ps i ≡ o → handle image base (walk image base f cap (suc i)) cap ps o ≡ table qs → Reached qs
       unfolding handle
       keep_at none g v = let z : ps ≡ qs = cc in subst Reached z (record { turns = i; kept = q; all_done = g })
-      keep_at (some x) g v = keep-test x g (allowed image base x) refl v
+      keep_at (some x) g v = keep_test x g (allowed image base x) refl v
 
     walk_keeps : (f i : ℕ) (ps qs : List Place) → Q i ps → walk image base f cap i ps ≡ table qs → Reached qs
     unfolding walk

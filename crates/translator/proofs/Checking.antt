@@ -66,24 +66,24 @@ module _ (image : List ℕ) (base : ℕ) (entries : List ℕ) (pl rl : ℕ) wher
     tr_base n = rw (good_length, ne_eqb (base % 4) 0 n)
 
     module _ (a : base % 4 ≡ 0) {c : Bool} (g : c ≡ bad_count (length entries / 4)) where
-      count-is : (d : Bool) → c ≡ d → bad_count (length (numbers_in entries)) ≡ d
+      count_is : (d : Bool) → c ≡ d → bad_count (length (numbers_in entries)) ≡ d
       unfolding numbers_in numbers_of
-      count-is d h = rw (length_up (λ i. number_at entries (4 * i)) (length entries / 4), ← g) h
+      count_is d h = rw (length_up (λ i. number_at entries (4 * i)) (length entries / 4), ← g) h
 
-      pub tr-count : c ≡ true → refusal pl rl (Entry 0) ≡ answer
+      pub tr_count : c ≡ true → refusal pl rl (Entry 0) ≡ answer
       unfolding translation
-      tr-count t = rw (good_length, eq-eqb (base % 4) 0 a, count-is true t)
+      tr_count t = rw (good_length, eq-eqb (base % 4) 0 a, count_is true t)
 
       module _ (h : c ≡ false) {p : ℕ} (q : p ≡ first_bad base (length image) 0 (numbers_of entries (length entries / 4))) where
-        position-is : first_bad base (length image) 0 (numbers_in entries) ≡ p
+        position_is : first_bad base (length image) 0 (numbers_in entries) ≡ p
         unfolding numbers_in
-        position-is = sym q
+        position_is = sym q
 
-        pub tr-entry : (p ≡ 0 → ⊥) → refusal pl rl (Entry p) ≡ answer
+        pub tr_entry : (p ≡ 0 → ⊥) → refusal pl rl (Entry p) ≡ answer
         unfolding translation
-        tr-entry n = rw (good_length, eq-eqb (base % 4) 0 a, count-is false h, position-is, ne_eqb p 0 n)
+        tr_entry n = rw (good_length, eq-eqb (base % 4) 0 a, count_is false h, position_is, ne_eqb p 0 n)
 
-        pub tr-walk : {room : ℕ} (w : Walked) → p ≡ 0 → room ≡ place_room pl → w ≡ places_of image base room (numbers_of entries (length entries / 4))
+        pub tr_walk : {room : ℕ} (w : Walked) → p ≡ 0 → room ≡ place_room pl → w ≡ places_of image base room (numbers_of entries (length entries / 4))
             → from_walk image base pl rl w ≡ answer
         unfolding translation numbers_in
-        tr-walk w z er ew = rw (good_length, eq-eqb (base % 4) 0 a, count-is false h, position-is, z, ← er, ← ew)
+        tr_walk w z er ew = rw (good_length, eq-eqb (base % 4) 0 a, count_is false h, position_is, z, ← er, ← ew)
