@@ -6,7 +6,6 @@ on the left and the reading's numbers on the right, which the checker proves by 
 crates. What is generated is not kept.
 """
 import argparse
-import os
 import random
 import re
 import shutil
@@ -22,7 +21,8 @@ from cases import Census, read_cases
 from statements import BATCH, SHOWN, equations, given, spoiled, written
 
 TOP = Path(__file__).resolve().parent.parent.parent
-BELOW = {crate: needed.split() for crate, needed in (line.split(":") for line in (TOP / "crates.txt").read_text().splitlines())}
+LINES = [line for line in (TOP / "crates.txt").read_text().splitlines() if ":" in line]
+BELOW = {crate.split()[0]: needed.split() for crate, needed in (line.split(":") for line in LINES)}
 BATCH_SIZE = 50
 REFUSED = re.compile(r"\S*/specs/Batch\d+\.antt:\d+:\d+: error: `(\w+)-(\d+)`")
 DIFFERS = re.compile(r"computed as far as they go, .* has `(.*)` \(expected\).* has `(.*)` \(found\)")
@@ -50,7 +50,7 @@ def definitions():
     for crate in CRATES:
         for file in sorted((TOP / "crates" / crate / "specs").glob("*.antt")):
             for name in re.findall(r"^\s*unfoldable pub (\S+) :", file.read_text(), re.MULTILINE):
-                yield f"Rattle·{crate}.specs.{file.stem}.{name}"
+                yield f"Rattle.{crate}.specs.{file.stem}.{name}"
 
 
 def copy_crates(work):
@@ -62,12 +62,7 @@ def copy_crates(work):
     for law in proofs.glob("*.antt"):
         law.unlink()
     (proofs / "Lib.antt").write_text("")
-    for crate in CRATES:  # what the repository has proved, and has not changed since, is not proved again
-        for made in (f"rlib/{crate}.rlib", f"stamp/{crate}"):
-            if (TOP / "target" / made).exists():
-                (work / "target" / made).parent.mkdir(parents=True, exist_ok=True)
-                subprocess.run(["cp", "-R", TOP / "target" / made, work / "target" / made], check=True)
-    lines = [line for line in (TOP / "crates.txt").read_text().splitlines() if line.split(":")[0] in CRATES]
+    lines = [line for line in LINES if line.split(":")[0] in CRATES]
     (work / "crates.txt").write_text("\n".join([*lines, "equations: " + " ".join(CRATES), ""]))
 
 
@@ -76,7 +71,7 @@ def write_equations(work, stated):
     crate = work / "crates" / "equations"
     (crate / "specs").mkdir(parents=True)
     (crate / "src").mkdir()
-    (crate / "src" / "lib.rt").write_text("// specs/ has equations; there is no code.\n")
+    (crate / "src" / "lib.rt").write_text("// specs/ has equations; there is no code.\n#![tactic(auto)]\n")
     (crate / "specs" / "Shown.antt").write_text(SHOWN % " ".join(definitions()))
     modules = ["Shown"]
     for first in range(0, len(stated), BATCH_SIZE):
@@ -90,8 +85,8 @@ def write_equations(work, stated):
 
 def prove(work, crate):
     """What the checker says of a crate, in whole lines, and whether it proves it."""
-    done = subprocess.run(["rt", "check", crate], cwd=work, env={**os.environ, "RT_CUT": "0"}, text=True,
-                          errors="replace", stdout=subprocess.PIPE, stderr=subprocess.STDOUT)
+    done = subprocess.run(["rt", "check"], cwd=work / "crates" / crate, text=True, errors="replace", stdout=subprocess.PIPE,
+                          stderr=subprocess.STDOUT)
     if done.returncode not in (0, 1):
         sys.exit(f"{done.stdout[-9000:]}\ncompute.py: the checker came to no verdict")
     return done.stdout, done.returncode == 0

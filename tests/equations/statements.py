@@ -8,14 +8,14 @@ Equation = namedtuple("Equation", "name left right")
 
 # Named on an `unfolding` line, `definitions` opens what its own line names: every definition of the crates' specs.
 SHOWN = """\
-use Prim.Native.Nat.{ℕ, _*_, suc}
-use mathlib.Core.List.{List, [], _∷_}
+use Prim.Native.Nat.{ℕ, ◌*◌, suc}
+use mathlib.Core.List.{List, [], ◌∷◌}
 use lib.ListN.{take}
-use Rattle·machine.specs.Ends.{Ending}
-use Rattle·model.specs.Records.{Rec, Row, rowsIn, recordsIn}
-use Rattle·model.specs.Translation.{Handed, answerNumbers}
-use Rattle·model.specs.Trails.{Trail, cut, spent, shut, at, Entry, entries, closing, gaps, later}
-use Rattle·model.specs.Cores.{Start, newOver, newBegin, stepsFor, newTrailAt}
+use Rattle.machine.specs.Ends.{Ending}
+use Rattle.model.specs.Records.{Rec, Row, rows_in, records_in}
+use Rattle.model.specs.Translation.{Handed, answer_numbers}
+use Rattle.model.specs.Trails.{Trail, cut, spent, shut, at, Entry, entries, closing, gaps, later}
+use Rattle.model.specs.Cores.{Start, new_over, new_begin, steps_for, new_trail_at}
 
 unfoldable pub definitions : Unit {0}
 unfolding %s
@@ -23,14 +23,14 @@ definitions = tt
 
 -- the answer's numbers, and the bytes of both buffers
 abbrev pub handed : Handed → List (List ℕ)
-handed h = answerNumbers (h .answer) ∷ h .places ∷ h .records ∷ []
+handed h = answer_numbers h.answer ∷ h.places ∷ h.records ∷ []
 
 -- what closes a trail: the cut, the count of steps, or an end
-abbrev pub closedBy : Trail → ℕ
-closedBy cut = 0
-closedBy spent = 1
-closedBy (shut e) = 2
-closedBy (at gap a m t) = closedBy t
+abbrev pub closed_by : Trail → ℕ
+closed_by cut = 0
+closed_by spent = 1
+closed_by (shut e) = 2
+closed_by (at gap a m t) = closed_by t
 
 -- a trail as demand 3 takes it apart, with the steps that lead to each entry, the first included
 pub record Shown : Type 0 where
@@ -44,7 +44,7 @@ abbrev pub shown : List Entry → Ending → List ℕ → List ℕ → ℕ → S
 shown es e between before c = record { entered = es; closed = e; between = between; before = before; by = c }
 
 abbrev pub showing : Trail → Shown
-showing t = shown (entries t) (closing t) (gaps t) (later t) (closedBy t)
+showing t = shown (entries t) (closing t) (gaps t) (later t) (closed_by t)
 
 -- what the new core reads in both tables, and its trail over them
 pub record Over : Type 0 where
@@ -57,36 +57,36 @@ over rs l t = record { rows = rs; list = l; trail = t }
 
 -- "Over a translation it is given just the places and records counted, no zeros past them."
 abbrev pub translated : ℕ → ℕ → ℕ → ℕ → ℕ → ℕ → Start → Handed → Over
-translated placeCount recordCount base size db k x h =
-    let places = take (16 * placeCount) (h .places) in
-    let records = take (12 * recordCount) (h .records) in
-    over (rowsIn places) (recordsIn records)
-    (showing (newTrailAt (newOver records places base size db) (stepsFor k) k (x .address) (newBegin places base size x)))
+translated place_count record_count base size db k x h =
+    let places = take (16 * place_count) h.places in
+    let records = take (12 * record_count) h.records in
+    over (rows_in places) (records_in records)
+    (showing (new_trail_at (new_over records places base size db) (steps_for k) k x.address (new_begin places base size x)))
 
 -- any tables: "there the trail is that of a run of a given count"
 abbrev pub malformed : ℕ → ℕ → ℕ → ℕ → Start → List ℕ → List ℕ → Over
 malformed base size db count x places records =
-    over (rowsIn places) (recordsIn records)
-    (showing (newTrailAt (newOver records places base size db) count (suc (suc count)) (x .address) (newBegin places base size x)))
+    over (rows_in places) (records_in records)
+    (showing (new_trail_at (new_over records places base size db) count (suc (suc count)) x.address (new_begin places base size x)))
 """
 
 BATCH = """\
 use Prim.Native.Nat.{ℕ}
-use mathlib.Core.Path.{_≡_, refl}
-use mathlib.Core.List.{List, [], _∷_}
+use mathlib.Core.Path.{◌≡◌, refl}
+use mathlib.Core.List.{List, [], ◌∷◌}
 use lib.ListN.{length}
-use Rattle·machine.specs.Ends.{ending}
-use Rattle·effects.specs.Effect.{machine}
-use Rattle·model.specs.Records.{doWord, link, hold, goIf, goTo, goHeld, stop, unknown, row}
-use Rattle·model.specs.Translation.{Handed, translation}
-use Rattle·model.specs.Trails.{entry}
-use Rattle·model.specs.Cores.{Start, oldOver, oldBegin, trailOf}
-use Rattle·equations·specs.specs.Shown.{definitions, handed, shown, showing, over, translated, malformed}
+use Rattle.machine.specs.Ends.{ending}
+use Rattle.effects.specs.Effect.{machine}
+use Rattle.model.specs.Records.{do_word, link, hold, go_if, go_to, go_held, stop, unknown, row}
+use Rattle.model.specs.Translation.{Handed, translation}
+use Rattle.model.specs.Trails.{entry}
+use Rattle.model.specs.Cores.{Start, old_over, old_begin, trail_of}
+use Rattle.equations.specs.Shown.{definitions, handed, shown, showing, over, translated, malformed}
 """
 
 CUT, SPENT, SHUT = 0, 1, 2
 # A record's constructor by its kind, and how many of its two numbers it names.
-RECORDS = {1: ("doWord", 1), 2: ("link", 1), 3: ("hold", 2), 4: ("goIf", 2), 5: ("goTo", 1), 6: ("goHeld", 0),
+RECORDS = {1: ("do_word", 1), 2: ("link", 1), 3: ("hold", 2), 4: ("go_if", 2), 5: ("go_to", 1), 6: ("go_held", 0),
            7: ("stop", 2)}
 
 
@@ -156,7 +156,7 @@ def equations(case):
     n, base, db, cut = case.number, case.base[0], case.data_base[0], case.cut[0]
     places, records = buffer(case.place, case.places_length[0]), buffer(case.record, case.records_length[0])
     yield Equation(f"answer-{n}", f"handed handed-{n}", listed(map(listed, (case.answer, places, records))))
-    old = f"trailOf (oldOver image-{n} {base} {db}) {cut} (oldBegin start-{n})"
+    old = f"trail_of (old_over image-{n} {base} {db}) {cut} (old_begin start-{n})"
     yield Equation(f"old-{n}", f"showing ({old})", trail_term(case, "old", CUT))
     if case.accepted:
         counts = f"{case.answer[1]} {case.answer[2]}"
