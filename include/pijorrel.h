@@ -242,8 +242,7 @@ struct pijorrel_end pijorrel_new_run(const uint8_t *records, size_t records_leng
  *                      xnor  135 151
  *
  * Bicc are bn, be, ble, bl, bleu, bcs, bneg, bvs, ba, bne, bg, bge, bgu, bcc, bpos and bvc, each also with ,a; Ticc are
- * sixteen likewise. gcc makes words for V8 that are not among these, ldd, std, udiv and sdiv above all: README.md says
- * what to do about each.
+ * sixteen likewise. gcc makes words for V8 that are not among these, ldd, std, udiv and sdiv above all.
  *
  * An instruction is six numbers, 24 bytes, in the byte order of all numbers here.
  *   0  form: 64 * op + op3 for op 2 and 3, 64 for call, 2 for Bicc, 4 for sethi; 0 for a word that is not known
