@@ -1,8 +1,9 @@
 // Places and answers. specs/ has document 01 as definitions, in 01's order.
 #![tactic(auto)]
 
-ghost use Rattle.std.specs.Prelude.{◌≡◌};
+ghost use Rattle.std.specs.Prelude.{◌≡◌, [], ◌∷◌};
 ghost use Rattle.model.specs.OldCore.{target};
+ghost use Rattle.model.specs.Translation.{refusal_numbers};
 
 use machine::{SourcePc, further};
 
@@ -22,10 +23,16 @@ pub enum Place {
     Held(u32),
 }
 
-// What a translation answers: the place count and the record count, or a refusal with its value.
+// What an accepted image has.
 #[derive(Clone, Copy)]
-pub enum Answer {
-    Accepted(u32, u32),
+pub struct Counts {
+    pub places: u32,
+    pub records: u32,
+}
+
+// A refusal with its value.
+#[derive(Clone, Copy)]
+pub enum Refusal {
     ImageLength(u64),
     Base(u32),
     // the position of the first bad entry, counted from 1, or 0 where the count is bad
@@ -35,3 +42,23 @@ pub enum Answer {
     // the records needed
     RecordsShort(u32),
 }
+
+impl Refusal {
+    // Its number and its value.
+    #[tactic(auto, unfolding(crate::specs::Translation::refusal_numbers))]
+    pub fn numbers(self) -> (u32, u64)
+        ensures { result.0 ∷ result.1 ∷ [] ≡ refusal_numbers self }
+    {
+        match self {
+            Refusal::ImageLength(n) => (1, n),
+            Refusal::Base(b) => (2, u64::from(b)),
+            Refusal::Entry(k) => (3, u64::from(k)),
+            Refusal::Forbidden(p) => (4, u64::from(p)),
+            Refusal::NoRoom(p) => (5, u64::from(p)),
+            Refusal::RecordsShort(n) => (6, u64::from(n)),
+        }
+    }
+}
+
+// What a translation answers.
+pub type Answer = Result<Counts, Refusal>;
