@@ -78,18 +78,22 @@ fn put_refusal(out: &mut [u8], number: u64, detail: u64) -> usize
 }
 
 // Puts what a translation answered and left in its buffers.
-fn put_answer(out: &mut [u8], a: Answer, places: &[u8], records: &[u8]) -> usize
-    requires { (16 * places_counted a ≤ length places.now) × (12 * records_counted a ≤ length records.now) × (length places.now ≤ 8192) × (length records.now ≤ 12288) × (131072 ≤ length out.old) }
-    ensures { Written out.old 0 (answer_text a places.now records.now) 131072 out.new result }
+fn put_answer(out: &mut [u8], answer: Answer, places: &[u8], records: &[u8]) -> usize
+    requires { (16 * places_counted answer ≤ length places.now) × (12 * records_counted answer ≤ length records.now) × (length places.now ≤ 8192) × (length records.now ≤ 12288) × (131072 ≤ length out.old) }
+    ensures { Written out.old 0 (answer_text answer places.now records.now) 131072 out.new result }
 {
-    match a {
-        Answer::Accepted(n, m) => put_tables(out, places, n as usize, records, m as usize),
-        Answer::ImageLength(n) => put_refusal(out, 1, n),
-        Answer::Base(b) => put_refusal(out, 2, b as u64),
-        Answer::Entry(k) => put_refusal(out, 3, k as u64),
-        Answer::Forbidden(p) => put_refusal(out, 4, p as u64),
-        Answer::NoRoom(p) => put_refusal(out, 5, p as u64),
-        Answer::RecordsShort(n) => put_refusal(out, 6, n as u64),
+    match answer {
+        Ok(counts) => put_tables(
+            out,
+            places,
+            counts.places as usize,
+            records,
+            counts.records as usize,
+        ),
+        Err(refusal) => {
+            let (number, value) = refusal.numbers();
+            put_refusal(out, u64::from(number), value)
+        }
     }
 }
 

@@ -30,6 +30,14 @@ pub struct Counts {
     pub records: u32,
 }
 
+impl Counts {
+    // What a refusal has.
+    pub const NONE: Counts = Counts {
+        places: 0,
+        records: 0,
+    };
+}
+
 // A refusal with its value.
 #[derive(Clone, Copy)]
 pub enum Refusal {

@@ -5,14 +5,17 @@ use Rattle.numbers.specs.Number.{number_at, numbers_of}
 use borrow.Author.Tests.{eq-eqb, ne_eqb, lt-ltb, le-ltb, leb-true, leb-false, ltb-false}
 use lib.ListN.{length, drop}
 use native.Mathlib.Numerals.{add-one}
+use native.Mathlib.Omega.{arith}
 use mathlib.Core.List.{List}
 use mathlib.Core.Bool.{Bool, true, false, false≢true, not, ◌||◌}
 use mathlib.Core.Path.{◌≡◌, refl, sym, ◌∙◌}
-use Prim.Native.Nat.{ℕ, suc, ◌+◌, ◌*◌, ◌/◌, ◌%◌, ◌≤◌, ◌<◌}
+use Prim.Native.Nat.{ℕ, zero, suc, ◌+◌, ◌*◌, ◌/◌, ◌%◌, ◌≤◌, ◌<◌}
+use Rattle.std.specs.Prelude.{Option, Some, None}
+use Rattle.translator.specs.Handing.{position}
 use Rattle.model.specs.Translation.{Handed, bad_length, bad_count, bad_entry, first_bad, place_room, refusal, from_walk, translation}
 use Rattle.model.specs.Walk.{Walked, places_of}
 use Rattle.model.specs.Records.{numbers_in}
-use Rattle.model.specs.declared.Answer.TheVariants.{ImageLength, Base, Entry}
+use Rattle.model.specs.declared.Refusal.TheVariants.{ImageLength, Base, Entry}
 
 -- what does not fit lies outside
 pub outside : (a b : ℕ) → ltb b a ≡ not (leb a b)
@@ -37,6 +40,17 @@ module _ (base size : ℕ) (l : List ℕ) (k j : ℕ) where
   pub bad_nowhere : k ≤ j → 0 ≡ first_bad base size j (drop j (numbers_of l k))
   unfolding first_bad numbers_of
   bad_nowhere h = rw (drop_all_up (λ i. number_at l (4 * i)) k j h)
+
+-- a position that is answered is the first bad entry's, and none says that no entry is bad
+pub named : (n : ℕ) {k : ℕ} {o : Option ℕ} → o ≡ position n → o ≡ Some k → (n ≡ k) × (k ≡ 0 → ⊥)
+unfolding position
+named zero {k} p q = let z : ◌≡◌ {A = Option ℕ} None (Some k) = sym p ∙ q in absurd (cc)
+named (suc m) {k} p q = let e : suc m ≡ k = cc in (e, λ z. omega arith)
+
+pub unnamed : (n : ℕ) {o : Option ℕ} → o ≡ position n → o ≡ None → n ≡ 0
+unfolding position
+unnamed zero p q = refl
+unnamed (suc m) p q = let z : ◌≡◌ {A = Option ℕ} None (Some (suc m)) = sym q ∙ p in absurd (cc)
 
 -- a count that is not bad
 pub good_count : (k : ℕ) {b : Bool} → b ≡ bad_count k → b ≡ false → k ≤ 64
@@ -74,16 +88,20 @@ module _ (image : List ℕ) (base : ℕ) (entries : List ℕ) (pl rl : ℕ) wher
       unfolding translation
       tr_count t = rw (good_length, eq-eqb (base % 4) 0 a, count_is true t)
 
-      module _ (h : c ≡ false) {p : ℕ} (q : p ≡ first_bad base (length image) 0 (numbers_of entries (length entries / 4))) where
-        position_is : first_bad base (length image) 0 (numbers_in entries) ≡ p
+      module _ (h : c ≡ false) where
+        first_is : first_bad base (length image) 0 (numbers_in entries) ≡ first_bad base (length image) 0 (numbers_of entries (length entries / 4))
         unfolding numbers_in
-        position_is = sym q
+        first_is = refl
 
-        pub tr_entry : (p ≡ 0 → ⊥) → refusal pl rl (Entry p) ≡ answer
+        abbrev bad : ℕ
+        bad = first_bad base (length image) 0 (numbers_of entries (length entries / 4))
+
+        pub tr_entry : {o : Option ℕ} {p : ℕ} → o ≡ position bad → o ≡ Some p → refusal pl rl (Entry p) ≡ answer
         unfolding translation
-        tr_entry n = rw (good_length, eq-eqb (base % 4) 0 a, count_is false h, position_is, ne_eqb p 0 n)
+        tr_entry q r = let n = named bad q r in
+            rw (good_length, eq-eqb (base % 4) 0 a, count_is false h, first_is, n.0, ne_eqb _ 0 n.1)
 
-        pub tr_walk : {room : ℕ} (w : Walked) → p ≡ 0 → room ≡ place_room pl → w ≡ places_of image base room (numbers_of entries (length entries / 4))
-            → from_walk image base pl rl w ≡ answer
+        pub tr_walk : {o : Option ℕ} {room : ℕ} (w : Walked) → o ≡ position bad → o ≡ None → room ≡ place_room pl
+            → w ≡ places_of image base room (numbers_of entries (length entries / 4)) → from_walk image base pl rl w ≡ answer
         unfolding translation numbers_in
-        tr_walk w z er ew = rw (good_length, eq-eqb (base % 4) 0 a, count_is false h, position_is, z, ← er, ← ew)
+        tr_walk w q r er ew = rw (good_length, eq-eqb (base % 4) 0 a, count_is false h, unnamed bad q r, ← er, ← ew)

@@ -1,28 +1,21 @@
 -- What the translator's routines leave, beside what model says that is handed back.
-use Rattle.std.specs.Prelude.{ℕ, ◌*◌, List, length}
+use Rattle.std.specs.Prelude.{ℕ, zero, suc, ◌*◌, List, length, Option, Some, None, Ok, Err}
 use Rattle.numbers.specs.Number.{numbers_of}
-use Rattle.model.specs.declared.Answer.{Answer}
-use Rattle.model.specs.declared.Answer.TheVariants.{Accepted, ImageLength, Base, Entry, Forbidden, NoRoom, RecordsShort}
-use Rattle.model.specs.Translation.{Handed, filled}
+use Rattle.model.specs.Translation.{Answer, Handed, filled}
+
+-- a position counted from 1, where 0 says none
+unfoldable pub position : ℕ → Option ℕ
+position zero = None
+position (suc k) = Some (suc k)
 
 -- the places and records that an answer counts
 unfoldable pub places_counted : Answer → ℕ
-places_counted (Accepted n m) = n
-places_counted (ImageLength n) = 0
-places_counted (Base a) = 0
-places_counted (Entry k) = 0
-places_counted (Forbidden a) = 0
-places_counted (NoRoom a) = 0
-places_counted (RecordsShort n) = 0
+places_counted (Ok c) = c.places
+places_counted (Err e) = 0
 
 unfoldable pub records_counted : Answer → ℕ
-records_counted (Accepted n m) = m
-records_counted (ImageLength n) = 0
-records_counted (Base a) = 0
-records_counted (Entry k) = 0
-records_counted (Forbidden a) = 0
-records_counted (NoRoom a) = 0
-records_counted (RecordsShort n) = 0
+records_counted (Ok c) = c.records
+records_counted (Err e) = 0
 
 abbrev pub handed : Answer → List ℕ → List ℕ → Handed
 handed r places records = record { answer = r; places = places; records = records }

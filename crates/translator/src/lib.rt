@@ -7,68 +7,55 @@ ghost use Rattle.model.specs.Translation.{bad_length, bad_count, bad_entry, firs
 ghost use Rattle.model.specs.Walk.{table};
 ghost use Rattle.places.specs.Table.{places_in};
 ghost use Rattle.places.specs.Index.{Tabled};
-ghost use Rattle.translator.specs.Handing.{places_counted, records_counted, handed, cleared};
+ghost use Rattle.translator.specs.Handing.{position, handed, cleared};
 
-use model::Answer;
+use model::{Answer, Counts, Refusal};
 use walks::walk::find_places;
 use walks::worklist::Found;
 
 // Refusal 1.
+#[tactic(auto, unfolding(model::specs::Translation::bad_length))]
 fn bad_length(n: usize) -> bool
     ensures { result ≡ bad_length n }
 {
-    if n == 0 {
-        return true;
-    }
-    if 16384 < n {
-        return true;
-    }
-    n % 4 != 0
+    n == 0 || 16384 < n || n % 4 != 0
 }
 
 // Refusal 3 for the count.
+#[tactic(auto, unfolding(model::specs::Translation::bad_count))]
 fn bad_count(k: usize) -> bool
     ensures { result ≡ bad_count k }
 {
-    if k == 0 {
-        return true;
-    }
-    64 < k
+    k == 0 || 64 < k
 }
 
+#[tactic(auto, unfolding(model::specs::Translation::bad_entry, model::specs::OldCore::in_image))]
 fn bad_entry(base: u32, size: usize, e: u32) -> bool
     ensures { result ≡ bad_entry base size e }
 {
-    if e % 4 != 0 {
-        return true;
-    }
     let at = numbers::subtract(e, base) as usize;
-    size < at + 4
+    e % 4 != 0 || size < at + 4
 }
 
-// The position of the first bad entry of k, counted from 1; 0 if none is bad.
-fn bad_position(entries: &[u8], k: usize, base: u32, size: usize) -> u32
+// The position of the first bad entry of k, counted from 1, if one is bad.
+fn bad_position(entries: &[u8], k: usize, base: u32, size: usize) -> Option<u32>
     requires { (4 * k ≤ length entries.now) × (k ≤ 64) }
-    ensures { result ≡ first_bad base size 0 (numbers_of entries.now k) }
+    ensures { result ≡ position (first_bad base size 0 (numbers_of entries.now k)) }
 {
-    let mut j: usize = 0;
-    while j < k {
+    for j in 0..k {
         if bad_entry(base, size, numbers::read_number(entries, 4 * j)) {
-            return (j + 1) as u32;
+            return Some((j + 1) as u32);
         }
-        j += 1;
     }
-    0
+    None
 }
 
 // How many places a table of so many bytes has room for.
+#[tactic(auto, unfolding(model::specs::Translation::place_room))]
 fn place_room(bytes: usize) -> usize
     ensures { result ≡ place_room bytes }
 {
-    if bytes / 16 < 8192 {
-        return bytes / 16;
-    }
-    8192
+    (bytes / 16).min(8192)
 }
 
 // First records and records of the places that were found; refusal 6 where the buffer is short.
@@ -86,10 +73,13 @@ fn finish(
 {
     let total = groups::layout::lay_out(image, base, places, count);
     if records.len() / 12 < total {
-        return Answer::RecordsShort(total as u32);
+        return Err(Refusal::RecordsShort(total as u32));
     }
     groups::records::put_groups(image, base, places, heads, links, count, total, records);
-    Answer::Accepted(count as u32, total as u32)
+    Ok(Counts {
+        places: count as u32,
+        records: total as u32,
+    })
 }
 
 // The translation before its buffers are cleared: nothing is said of the bytes past what it counts.
@@ -98,18 +88,17 @@ fn attempt(image: &[u8], base: u32, entries: &[u8], places: &mut [u8], records: 
 {
     let size = image.len();
     if bad_length(size) {
-        return Answer::ImageLength(size as u64);
+        return Err(Refusal::ImageLength(size as u64));
     }
     if base % 4 != 0 {
-        return Answer::Base(base);
+        return Err(Refusal::Base(base));
     }
     let k = entries.len() / 4;
     if bad_count(k) {
-        return Answer::Entry(0);
+        return Err(Refusal::Entry(0));
     }
-    let bad = bad_position(entries, k, base, size);
-    if bad != 0 {
-        return Answer::Entry(bad);
+    if let Some(position) = bad_position(entries, k, base, size) {
+        return Err(Refusal::Entry(position));
     }
     let mut heads = [0u16; 8192];
     let mut links = [0u16; 8192];
@@ -119,27 +108,8 @@ fn attempt(image: &[u8], base: u32, entries: &[u8], places: &mut [u8], records: 
     );
     match w {
         Found::Places(n) => finish(image, base, places, &heads, &links, n, records),
-        Found::Forbidden(a) => Answer::Forbidden(a),
-        Found::NoRoom(a) => Answer::NoRoom(a),
-    }
-}
-
-// The places that an answer counts: a refusal counts none.
-fn places_counted(a: Answer) -> usize
-    ensures { result ≡ places_counted a }
-{
-    match a {
-        Answer::Accepted(n, m) => n as usize,
-        _ => 0,
-    }
-}
-
-fn records_counted(a: Answer) -> usize
-    ensures { result ≡ records_counted a }
-{
-    match a {
-        Answer::Accepted(n, m) => m as usize,
-        _ => 0,
+        Found::Forbidden(a) => Err(Refusal::Forbidden(a)),
+        Found::NoRoom(a) => Err(Refusal::NoRoom(a)),
     }
 }
 
@@ -153,8 +123,9 @@ pub fn translate(
 ) -> Answer
     ensures { handed result places.new records.new ≡ translation image.now base entries.now (length places.old) (length records.old) }
 {
-    let a = attempt(image, base, entries, places, records);
-    numbers::clear_from(places, 16 * places_counted(a));
-    numbers::clear_from(records, 12 * records_counted(a));
-    a
+    let answer = attempt(image, base, entries, places, records);
+    let counted = answer.unwrap_or(Counts::NONE);
+    numbers::clear_from(places, 16 * counted.places as usize);
+    numbers::clear_from(records, 12 * counted.records as usize);
+    answer
 }

@@ -3,4 +3,4 @@ use mathlib.Core.Path.{ap}
 use Rattle.pijorrel_translate.proofs.pijorrel_translate.Goals as goal
 
 pub returns : goal.returns
-returns c = rw c.numbers_of.ensures (ap returned c.translate.ensures)
+returns c = rw c.into.ensures (ap returned c.translate.ensures)
