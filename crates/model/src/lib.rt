@@ -8,6 +8,7 @@ ghost use Rattle.model.specs.Translation.{refusal_numbers};
 use machine::{SourcePc, further};
 
 // Where a displacement, which counts words, leads from an address.
+#[tactic(auto, unfolding(numbers::specs::Number::plus, crate::specs::OldCore::target))]
 pub fn target(p: SourcePc, disp: u32) -> SourcePc
     ensures { result.0 ≡ target p.0 disp }
 {
