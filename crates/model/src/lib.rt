@@ -2,7 +2,7 @@
 #![tactic(auto)]
 
 ghost use Rattle.std.specs.Prelude.{◌≡◌, [], ◌∷◌};
-ghost use Rattle.model.specs.OldCore.{target};
+ghost use Rattle.model.specs.OldCore.{word_of, word_in, target};
 ghost use Rattle.model.specs.Translation.{refusal_numbers};
 
 use machine::{SourcePc, further};
@@ -13,6 +13,28 @@ pub fn target(p: SourcePc, disp: u32) -> SourcePc
     ensures { result.0 ≡ target p.0 disp }
 {
     further(p, disp << 2)
+}
+
+// A source program: its bytes, and the address of the first.
+#[derive(Clone, Copy)]
+pub struct Image<'a> {
+    pub bytes: &'a [u8],
+    pub base: u32,
+}
+
+impl Image<'_> {
+    // The word at an address that lies in the image.
+    #[inline(always)]
+    #[tactic(auto, unfolding(crate::specs::OldCore::word_of, crate::specs::OldCore::word_in, crate::specs::OldCore::in_image))]
+    pub fn word(self, p: SourcePc) -> Option<u32>
+        ensures { word_of result ≡ word_in self.entry.bytes.now self.entry.base p.0 }
+    {
+        let at = numbers::subtract(p.0, self.base) as usize;
+        if at + 4 <= self.bytes.len() {
+            return Some(numbers::read_number(self.bytes, at));
+        }
+        None
+    }
 }
 
 // What the old core is about to do, at an address: with a known next address, which is 4 further for a plain place and any other for a
