@@ -1,5 +1,8 @@
--- Laws of ends: the arms that a `_` stands for, and what is made inside a larger state.
-use Rattle.machine.specs.Ends.{ending_from, within, settle, Ending, Next, ending, go, halt, state}
+-- Laws of ends: the numbers of an end, an end that is passed on, and what is made inside a larger state.
+use Rattle.std.specs.Prelude.{Result, Ok, Err, IsErrAnd}
+use Rattle.machine.specs.declared.End.{End}
+use Rattle.machine.specs.declared.End.TheVariants.{TrapTaken, Outside, IllegalWord, Misaligned, Unfit, NoPlace, BadRecord, TooManySaves, TooManyRestores}
+use Rattle.machine.specs.Ends.{ending_of, answered, ending_from, within, settle, Ending, Next, ending, go, halt, state}
 use borrow.Author.Tests.{eqb-false, lt-leb}
 use Rattle.numbers.specs.Choice.{pick}
 use lib.Dec.{eqb, leb}
@@ -32,6 +35,25 @@ settle_within f a a' e (go b) h = moved f a' b e (ending 0 0) h
     moved : {A B : Type 0} (f : A → B) (a b : A) (e d : Ending) → state a e ≡ state b d → state (f a) e ≡ state (f b) d
     moved f a b e d h = cc
 settle_within f a a' e (halt d) h = cc
+
+-- an end is none of a run that is still going
+pub not_going : (e : End) → ending_of e ≡ ending 0 0 → ⊥
+unfolding ending_of
+not_going (TrapTaken v) h = let z : ◌≡◌ {A = ℕ} 0 1 = cc in omega arith
+not_going (Outside v) h = let z : ◌≡◌ {A = ℕ} 0 2 = cc in omega arith
+not_going (IllegalWord v) h = let z : ◌≡◌ {A = ℕ} 0 3 = cc in omega arith
+not_going (Misaligned v) h = let z : ◌≡◌ {A = ℕ} 0 4 = cc in omega arith
+not_going (Unfit v) h = let z : ◌≡◌ {A = ℕ} 0 5 = cc in omega arith
+not_going (NoPlace v) h = let z : ◌≡◌ {A = ℕ} 0 6 = cc in omega arith
+not_going (BadRecord v) h = let z : ◌≡◌ {A = ℕ} 0 7 = cc in omega arith
+not_going (TooManySaves v) h = let z : ◌≡◌ {A = ℕ} 0 8 = cc in omega arith
+not_going (TooManyRestores v) h = let z : ◌≡◌ {A = ℕ} 0 9 = cc in omega arith
+
+-- an end that a `?` passes on
+pub passed_on : {A S : Type 0} (on : A → S) (s : S) (e : End) (r : Result A End) → IsErrAnd r (λ d. d ≡ e) → answered on s r ≡ state s (ending_of e)
+unfolding answered
+passed_on on s e (Ok a) h = absurd h
+passed_on on s e (Err d) h = rw h
 
 -- what goes on, or ends as a word may end a run: with any end but 6
 abbrev pub RunEnd : Ending → Type 0

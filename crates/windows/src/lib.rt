@@ -2,10 +2,9 @@
 // a window, its locals, the ins of the next one. Eight numbers are read before they are written, and so go as one.
 #![tactic(auto)]
 
-ghost use Rattle.std.specs.Prelude.{◌≡◌, ◌+◌, ◌*◌, ◌<◌, ◌≤◌, min, get_or};
-ghost use Rattle.words.specs.declared.WindowOperation.TheVariants.{Save, Restore};
-ghost use Rattle.machine.specs.Ends.{done, settle};
-ghost use Rattle.machine.specs.Registers.{file_size, address_of};
+ghost use Rattle.std.specs.Prelude.{◌≡◌, ℕ, ◌+◌, ◌*◌, ◌<◌, ◌≤◌, min, List, get_or};
+ghost use Rattle.machine.specs.Ends.{answered, done, settle};
+ghost use Rattle.machine.specs.Registers.{file_size, put_register, address_of};
 ghost use Rattle.windows.specs.Windows.{nesting_of, place_of, put_each, laid, taken, cleared, come_in, turned, window_of};
 
 use machine::End;
@@ -95,18 +94,12 @@ fn clear(regs: &mut File, w: u32)
     clear_eight(regs, place(w, 3));
 }
 
-fn at_most_6(n: u32) -> u32
-    ensures { result ≡ min n 6 }
-{
-    if n <= 6 { n } else { 6 }
-}
-
 // A file that was handed in: its nesting at most 6, and 0 where it repeats the current window.
 #[tactic(auto, unfolding(crate::specs::Windows::come_in, crate::specs::Windows::nested))]
 pub fn come_in(regs: &mut File)
     ensures { regs.new ≡ come_in regs.old }
 {
-    let w = at_most_6(nesting(regs));
+    let w = nesting(regs).min(6);
     regs[33] = w;
     clear(regs, w);
 }
@@ -122,30 +115,17 @@ fn turn(regs: &mut File, v: u32)
     regs[33] = v;
 }
 
+// The nesting that a save or a restore leads to.
 #[tactic(auto, unfolding(crate::specs::Windows::window_of, machine::specs::Ends::answered, machine::specs::Ends::settle, machine::specs::Ends::ending_of))]
-fn save(regs: &mut File, rd: u32, t: u32) -> Result<(), End>
-    ensures { done regs.new result ≡ settle regs.old (window_of Save rd t regs.old) }
+fn next_nesting(o: WindowOperation, w: u32) -> Result<u32, End>
+    ensures { (rs : List ℕ) (rd t : ℕ) → nesting_of rs ≡ w → answered (λ v. put_register (turned v rs) rd t) rs result ≡ settle rs (window_of o rd t rs) }
 {
-    let w = nesting(regs);
-    if w < 6 {
-        turn(regs, w + 1);
-        put(regs, rd, t);
-        return Ok(());
+    match o {
+        WindowOperation::Save if w < 6 => Ok(w + 1),
+        WindowOperation::Save => Err(End::TooManySaves(w)),
+        WindowOperation::Restore if 0 < w => Ok(w - 1),
+        WindowOperation::Restore => Err(End::TooManyRestores(w)),
     }
-    Err(End::TooManySaves(w))
-}
-
-#[tactic(auto, unfolding(crate::specs::Windows::window_of, machine::specs::Ends::answered, machine::specs::Ends::settle, machine::specs::Ends::ending_of))]
-fn restore(regs: &mut File, rd: u32, t: u32) -> Result<(), End>
-    ensures { done regs.new result ≡ settle regs.old (window_of Restore rd t regs.old) }
-{
-    let w = nesting(regs);
-    if 0 < w {
-        turn(regs, w - 1);
-        put(regs, rd, t);
-        return Ok(());
-    }
-    Err(End::TooManyRestores(w))
 }
 
 // The sum is read in the old window, and written in the new.
@@ -153,8 +133,8 @@ pub fn window(regs: &mut File, o: WindowOperation, rd: u32, rs1: u32, x: Operand
     ensures { done regs.new result ≡ settle regs.old (window_of o rd (address_of regs.old rs1 x) regs.old) }
 {
     let t = address(regs, rs1, x);
-    match o {
-        WindowOperation::Save => save(regs, rd, t),
-        WindowOperation::Restore => restore(regs, rd, t),
-    }
+    let v = next_nesting(o, nesting(regs))?;
+    turn(regs, v);
+    put(regs, rd, t);
+    Ok(())
 }
