@@ -4,7 +4,7 @@ use native.Mathlib.Nat.{mod-eq-sub-mod}
 use Rattle.std.proofs.lemmas.Nat.{one_shl}
 use Rattle.std.proofs.Math.Nat.{two-pow-succ}
 use Rattle.std.proofs.Math.Pow.{pow_mono}
-use lib.Seq.{paste, paste-suc, drop-nil}
+use lib.Seq.{paste, paste-zero, paste-suc, drop-nil}
 use lib.ListN.{get_or-append}
 use Rattle.numbers.specs.Choice.{pick}
 use Rattle.numbers.specs.Number.{Below, minus, put_number, number_at, numbers_of, bytes_of, up_to}
@@ -15,6 +15,17 @@ use Rattle.numbers.proofs.Lists.{length_up, up_list}
 pub length_put : (l : List ℕ) (at v : ℕ) → length (put_number l at v) ≡ length l
 unfolding put_number
 length_put l at v = simp length-set
+
+-- four bytes pasted are four bytes set, one after the other
+pub pasted : (l : List ℕ) (at a b c d : ℕ) → at + 4 ≤ length l
+    → paste l at (a ∷ b ∷ c ∷ d ∷ []) 4 ≡ set (set (set (set l at a) (at + 1) b) (at + 2) c) (at + 3) d
+pasted l at a b c d h =
+    let bs : List ℕ = a ∷ b ∷ c ∷ d ∷ [] in
+    let more : (j : ℕ) → j < 4 → set (paste l at bs j) (at + j) (get_or bs j 0) ≡ paste l at bs (suc j) =
+    λ j k. paste-suc l at bs j 0 (omega arith) k in
+    let z : at + 0 ≡ at = omega arith in
+    let first : set l at a ≡ paste l at bs 1 = ap (λ (t : List ℕ). set t at a) (paste-zero l at bs) ∙ ap (λ (n : ℕ). set (paste l at bs 0) n a) (sym z) ∙ more 0 (omega arith) in
+    sym (rw (first, more 1 (omega arith), more 2 (omega arith), more 3 (omega arith)))
 
 -- a sign extended by a sum and a difference, over the weight of the sign bit
 pub extend_by_sum : (h v : ℕ) → v < h + h → h + h ≤ 2 ^ 32 → minus ((v + h) % (h + h)) h ≡ pick (ltb v h) v (v + (2 ^ 32 - (h + h)))

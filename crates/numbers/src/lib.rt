@@ -47,16 +47,11 @@ pub fn read_number(bytes: &[u8], at: usize) -> u32
 }
 
 // Puts a number's four bytes at a position.
-#[tactic(auto, unfolding(crate::specs::Number::put_number))]
 pub fn write_number(bytes: &mut [u8], at: usize, v: u32)
     requires { at + 4 ≤ length bytes.old }
     ensures { bytes.new ≡ put_number bytes.old at v }
 {
-    let [a, b, c, d] = v.to_be_bytes();
-    bytes[at] = a;
-    bytes[at + 1] = b;
-    bytes[at + 2] = c;
-    bytes[at + 3] = d;
+    bytes[at..at + 4].copy_from_slice(&v.to_be_bytes());
 }
 
 // Fills a list with the first numbers of an area.
