@@ -10,6 +10,7 @@ ghost use Rattle.model.specs.StateBytes.{old_in, old_bytes, after, old_begins, o
 
 use machine::registers::{FILE, File};
 use machine::{Ended, Flags, SourcePc};
+use old_core::Image;
 use states::{OLD_BEHIND, OLD_STATE, OldControl};
 
 // The state that bytes stand for, its file lent.
@@ -73,6 +74,6 @@ pub fn pijorrel_old_run(
 {
     let mut regs = [0u32; FILE];
     let c = decode(state, &mut regs);
-    let k = old_core::run(image, base, db, &mut regs, c, area, count);
+    let k = old_core::run(&Image { bytes: image, base }, db, &mut regs, c, area, count);
     encode(&mut regs, k, state)
 }

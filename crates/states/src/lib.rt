@@ -1,16 +1,22 @@
 // The states of the cores: their start values, and their register file in a state's bytes.
 #![tactic(auto)]
 
-ghost use Rattle.std.specs.Prelude.{◌≡◌, ◌+◌, ◌*◌, ◌-◌, ◌≤◌, ◌++◌, length, take, drop};
+ghost use Rattle.std.specs.Prelude.{◌≡◌, ℕ, List, ◌+◌, ◌*◌, ◌-◌, ◌≤◌, ◌++◌, length, take, drop};
 ghost use Rattle.numbers.specs.Number.{bytes_of};
+ghost use Rattle.machine.specs.Ends.{live, left};
 ghost use Rattle.machine.specs.Registers.{file_size};
+ghost use Rattle.effects.specs.Effect.{machine};
+ghost use Rattle.model.specs.OldCore.{old, follows};
+ghost use Rattle.model.specs.NewCore.{new, following};
 ghost use Rattle.windows.specs.Windows.{laid, come_in};
-ghost use Rattle.model.specs.StateBytes.{file_in};
-ghost use Rattle.states.specs.OldState.{start_values};
-ghost use Rattle.states.specs.NewState.{new_start_values};
+ghost use Rattle.model.specs.StateBytes.{is_set, file_in};
+ghost use Rattle.states.specs.OldState.{start_values, old_of, old_state};
+ghost use Rattle.states.specs.NewState.{new_start_values, new_of, new_state};
+
+pub mod program;
 
 use machine::registers::{FILE, File};
-use machine::{End, Flags, SourcePc, TargetPc};
+use machine::{End, Flags, SourcePc, TargetPc, further};
 
 // The old core's state but for its registers, which are lent beside it.
 #[derive(Clone, Copy)]
@@ -23,6 +29,36 @@ pub struct OldControl {
     pub end: End,
 }
 
+#[tactic(auto, unfolding(machine::specs::Ends::ending_of))]
+impl OldControl {
+    // The run goes on: PC becomes nPC, and nPC the address given.
+    pub fn advance(self, next: SourcePc, annul: u32) -> Self
+        ensures { (rs a : List ℕ) → old_state rs result a ≡ live (old (machine rs self.flags.nzvc a) self.npc.0 next.0 (is_set annul)) }
+    {
+        OldControl {
+            pc: self.npc,
+            npc: next,
+            annul,
+            end: End::Going,
+            ..self
+        }
+    }
+
+    // The run goes on with the word after nPC.
+    pub fn follow(self) -> Self
+        ensures { (rs a : List ℕ) → old_state rs result a ≡ live (follows self.npc.0 (machine rs self.flags.nzvc a)) }
+    {
+        self.advance(further(self.npc, 4), 0)
+    }
+
+    // The run ends, and nothing else changes.
+    pub fn stop(self, end: End) -> Self
+        ensures { (rs a : List ℕ) → old_state rs result a ≡ left (old_of rs self a) end }
+    {
+        OldControl { end, ..self }
+    }
+}
+
 // The old core's state.
 #[derive(Drop)]
 pub struct OldCore {
@@ -30,22 +66,21 @@ pub struct OldCore {
     pub control: OldControl,
 }
 
+#[tactic(auto, unfolding(crate::specs::OldState::start_values))]
 impl OldCore {
     // The start values: all registers, Y, nesting and windows 0, all flags clear.
     pub fn new() -> Self
         ensures { result ≡ start_values }
     {
-        let f = Flags::CLEAR;
-        let c = OldControl {
-            flags: f,
-            pc: SourcePc(0),
-            npc: SourcePc(0),
-            annul: 0,
-            end: End::Going,
-        };
         OldCore {
-            registers: [0u32; FILE],
-            control: c,
+            registers: [0; FILE],
+            control: OldControl {
+                flags: Flags::CLEAR,
+                pc: SourcePc(0),
+                npc: SourcePc(0),
+                annul: 0,
+                end: End::Going,
+            },
         }
     }
 }
@@ -59,6 +94,34 @@ pub struct NewControl {
     pub end: End,
 }
 
+#[tactic(auto, unfolding(machine::specs::Ends::ending_of))]
+impl NewControl {
+    // The run goes on at a record.
+    pub fn go_to(self, to: TargetPc) -> Self
+        ensures { (rs a : List ℕ) → new_state rs result a ≡ live (new (machine rs self.flags.nzvc a) to.0 self.held.0) }
+    {
+        NewControl {
+            at: to,
+            end: End::Going,
+            ..self
+        }
+    }
+
+    // The run goes on at the next record.
+    pub fn follow(self) -> Self
+        ensures { (rs a : List ℕ) → new_state rs result a ≡ live (following self.at.0 self.held.0 (machine rs self.flags.nzvc a)) }
+    {
+        self.go_to(TargetPc(numbers::add(self.at.0, 1)))
+    }
+
+    // The run ends, and nothing else changes.
+    pub fn stop(self, end: End) -> Self
+        ensures { (rs a : List ℕ) → new_state rs result a ≡ left (new_of rs self a) end }
+    {
+        NewControl { end, ..self }
+    }
+}
+
 // The new core's state.
 #[derive(Drop)]
 pub struct NewCore {
@@ -66,21 +129,20 @@ pub struct NewCore {
     pub control: NewControl,
 }
 
+#[tactic(auto, unfolding(crate::specs::NewState::new_start_values))]
 impl NewCore {
     // The start values: all registers, Y, nesting and windows 0, all flags clear.
     pub fn new() -> Self
         ensures { result ≡ new_start_values }
     {
-        let f = Flags::CLEAR;
-        let c = NewControl {
-            flags: f,
-            at: TargetPc(0),
-            held: SourcePc(0),
-            end: End::Going,
-        };
         NewCore {
-            registers: [0u32; FILE],
-            control: c,
+            registers: [0; FILE],
+            control: NewControl {
+                flags: Flags::CLEAR,
+                at: TargetPc(0),
+                held: SourcePc(0),
+                end: End::Going,
+            },
         }
     }
 }

@@ -6,4 +6,4 @@ use Rattle.old_core.proofs.begin.Goals as goal
 
 pub returns : goal.returns
 unfolding old_begun zeroed ending_of is_set
-returns c = λ a. rw c.further-npc.ensures
+returns c = λ a. rw c.further.ensures

@@ -1,7 +1,7 @@
 use Rattle.model.specs.OldCore.{follows}
 use Rattle.model.specs.StateBytes.{is_set}
 use mathlib.Core.Path.{◌∙◌}
-use Rattle.old_core.proofs.follow.Goals as goal
+use Rattle.states.proofs.OldControl.follow.Goals as goal
 
 pub returns : goal.returns
 unfolding follows is_set
