@@ -10,6 +10,7 @@ ghost use Rattle.model.specs.StateBytes.{new_in, new_bytes, after, new_begins, n
 
 use machine::registers::{FILE, File};
 use machine::{Ended, Flags, SourcePc, TargetPc};
+use new_core::{Places, Translation};
 use states::{NEW_BEHIND, NEW_STATE, NewControl};
 
 // The state that bytes stand for, its file lent.
@@ -59,7 +60,12 @@ pub fn pijorrel_new_begin(
 {
     let mut regs = [0u32; FILE];
     let c = decode(state, &mut regs);
-    let k = new_core::begin(places, base, size, &mut regs, c, SourcePc(a));
+    let places = Places {
+        table: places,
+        base,
+        size,
+    };
+    let k = new_core::begin(&places, &mut regs, c, SourcePc(a));
     encode(&mut regs, k, state)
 }
 
@@ -78,6 +84,12 @@ pub fn pijorrel_new_run(
 {
     let mut regs = [0u32; FILE];
     let c = decode(state, &mut regs);
-    let k = new_core::run(records, places, base, size, db, &mut regs, c, area, count);
+    let places = Places {
+        table: places,
+        base,
+        size,
+    };
+    let translation = Translation { records, places };
+    let k = new_core::run(&translation, db, &mut regs, c, area, count);
     encode(&mut regs, k, state)
 }

@@ -3,7 +3,7 @@
 
 ghost use Rattle.std.specs.Prelude.{◌≡◌, ℕ, List, ◌+◌, ◌*◌, ◌-◌, ◌≤◌, ◌++◌, length, take, drop};
 ghost use Rattle.numbers.specs.Number.{bytes_of};
-ghost use Rattle.machine.specs.Ends.{live, left};
+ghost use Rattle.machine.specs.Ends.{ending, halt, live, left, settle};
 ghost use Rattle.machine.specs.Registers.{file_size};
 ghost use Rattle.effects.specs.Effect.{machine};
 ghost use Rattle.model.specs.OldCore.{old, follows};
@@ -94,7 +94,7 @@ pub struct NewControl {
     pub end: End,
 }
 
-#[tactic(auto, unfolding(machine::specs::Ends::ending_of))]
+#[tactic(auto, unfolding(machine::specs::Ends::ending_of, machine::specs::Ends::settle))]
 impl NewControl {
     // The run goes on at a record.
     pub fn go_to(self, to: TargetPc) -> Self
@@ -119,6 +119,13 @@ impl NewControl {
         ensures { (rs a : List ℕ) → new_state rs result a ≡ left (new_of rs self a) end }
     {
         NewControl { end, ..self }
+    }
+
+    // The record at hand is a bad one.
+    pub fn bad(self) -> Self
+        ensures { (rs a : List ℕ) → new_state rs result a ≡ settle (new_of rs self a) (halt (ending 7 self.at.0)) }
+    {
+        self.stop(End::BadRecord(self.at))
     }
 }
 

@@ -1,6 +1,3 @@
-use native.Mathlib.Omega.{arith}
-use mathlib.Core.Path.{sym}
-use lib.Seq.{length-take-le}
 use Rattle.machine.specs.Ends.{left}
 use Rattle.model.specs.Run.{zeroed}
 use Rattle.model.proofs.Runs.{lent_back}

@@ -1,6 +1,6 @@
 use native.Mathlib.Nat.{sub-zero}
 use native.Mathlib.Omega.{arith}
-use mathlib.Core.Path.{refl, sym, ◌∙◌}
+use mathlib.Core.Path.{sym, ◌∙◌}
 use Rattle.model.proofs.Runs.{run_on, run_done, run_ended, step_going}
 use Rattle.states.proofs.program.steps.Goals as goal
 

@@ -2,7 +2,7 @@ use Rattle.machine.specs.Ends.{settle}
 use Rattle.model.specs.Records.{record_of}
 use Rattle.model.specs.NewCore.{does_word, does}
 use Rattle.new_core.proofs.Records.{read_as, no_kind, held_alone}
-use Rattle.new_core.proofs.obey.Goals as goal
+use Rattle.new_core.proofs.Translation.obey.Goals as goal
 
 pub returns-in-1 : goal.returns-in-1
 unfolding does record_of does_word

@@ -1,6 +1,6 @@
 use Rattle.machine.specs.Ends.{ending_of}
 use Rattle.model.specs.NewCore.{lost}
-use Rattle.new_core.proofs.lost_at.Goals as goal
+use Rattle.new_core.proofs.Places.lost.Goals as goal
 
 pub returns-then-in_image : goal.returns-then-in_image
 unfolding lost ending_of
