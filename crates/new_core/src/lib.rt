@@ -5,7 +5,7 @@ ghost use Rattle.std.specs.Prelude.{◌≡◌, ℕ, ◌+◌, ◌*◌, ◌≤◌,
 ghost use Rattle.std.proofs.Math.Option.{some};
 ghost use Rattle.numbers.specs.Choice.{pick};
 ghost use Rattle.numbers.specs.Number.{plus};
-ghost use Rattle.machine.specs.Ends.{ending, ending_of, go, halt, is_going, live, left, settle, within};
+ghost use Rattle.machine.specs.Ends.{ending, ending_of, go, halt, live, settle, within};
 ghost use Rattle.machine.specs.Registers.{put_register};
 ghost use Rattle.effects.specs.Effect.{machine, effect_of};
 ghost use Rattle.model.specs.Run.{run, zeroed, data_of, beyond, lent};
@@ -80,15 +80,10 @@ impl Places<'_> {
 fn do_effect(i: Instruction, db: u32, regs: &mut File, c: NewControl, area: &mut [u8]) -> NewControl
     ensures { new_state regs.new result area.new ≡ settle (new_of regs.old c area.old) (within (following c.at.0 c.held.0) (effect_of db i (machine regs.old c.flags.nzvc area.old))) }
 {
-    let e = perform(i, db, regs, c.flags, area);
-    if machine::is_going(e.end) {
-        return NewControl {
-            flags: e.flags,
-            ..c
-        }
-        .follow();
+    match perform(i, db, regs, c.flags, area) {
+        Ok(flags) => NewControl { flags, ..c }.follow(),
+        Err(end) => c.stop(end),
     }
-    c.stop(e.end)
 }
 
 // Of the branches a record may do one that is never taken and annuls nothing.
@@ -216,7 +211,7 @@ impl Program for Translation<'_> {
 
     ghost next = { λ t. new_next t.records.now t.places.table.now t.places.base t.places.size };
 
-    fn end(c: NewControl) -> End
+    fn end(c: NewControl) -> Option<End>
         ensures { result ≡ c.end }
     {
         c.end
@@ -238,8 +233,8 @@ pub fn begin(places: &Places, regs: &mut File, c: NewControl, a: SourcePc) -> Ne
 {
     regs[0] = 0;
     let (at, end) = match places.search(a) {
-        Some(to) => (to, End::Going),
-        None => (TargetPc(0), places.lost(a)),
+        Some(to) => (to, None),
+        None => (TargetPc(0), Some(places.lost(a))),
     };
     NewControl {
         at,

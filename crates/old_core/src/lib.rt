@@ -4,7 +4,7 @@
 ghost use Rattle.std.specs.Prelude.{◌≡◌, ℕ, ◌%◌, List, eqb};
 ghost use Rattle.numbers.specs.Choice.{pick};
 ghost use Rattle.words.specs.Conditions.{holds_of};
-ghost use Rattle.machine.specs.Ends.{ending, halt, is_going, live, left, settle};
+ghost use Rattle.machine.specs.Ends.{ending, halt, live, settle};
 ghost use Rattle.machine.specs.Registers.{address_of};
 ghost use Rattle.effects.specs.Effect.{machine};
 ghost use Rattle.model.specs.Run.{run, zeroed, data_of, beyond, lent};
@@ -13,9 +13,9 @@ ghost use Rattle.model.specs.StateBytes.{is_set};
 ghost use Rattle.states.specs.OldState.{old_of, old_state};
 ghost use Rattle.old_core.specs.Word.{word_of};
 
-use effects::effect::{Effect, holds, perform};
+use effects::effect::{holds, perform};
 use machine::registers::{File, address, put};
-use machine::{End, SourcePc, further};
+use machine::{End, SourcePc};
 use model::target;
 use states::OldControl;
 use states::program::Program;
@@ -47,7 +47,7 @@ fn branch(c: OldControl, cond: u32, annul: bool, disp: u32) -> OldControl
     if holds(c.flags, cond) {
         return c.advance(target(c.pc, disp), machine::bit(annul && cond == 8));
     }
-    c.advance(further(c.npc, 4), machine::bit(annul))
+    c.advance(c.npc.further(4), machine::bit(annul))
 }
 
 // The address is taken from the registers before rd is written.
@@ -62,20 +62,6 @@ fn jump(c: OldControl, regs: &mut File, rd: u32, rs1: u32, x: Operand) -> OldCon
     c.stop(End::Misaligned(t))
 }
 
-// After a word that does not transfer control: the next word, or the end.
-fn finish(c: OldControl, e: Effect) -> OldControl
-    ensures { (rs a : List ℕ) → old_state rs result a ≡ pick (is_going e.end) (live (follows c.npc.0 (machine rs e.flags.nzvc a))) (left (old_of rs c a) e.end) }
-{
-    if machine::is_going(e.end) {
-        return OldControl {
-            flags: e.flags,
-            ..c
-        }
-        .follow();
-    }
-    c.stop(e.end)
-}
-
 fn execute(i: Instruction, db: u32, regs: &mut File, c: OldControl, area: &mut [u8]) -> OldControl
     ensures { old_state regs.new result area.new ≡ settle (old_of regs.old c area.old) (executes db (transfer_of i) i (machine regs.old c.flags.nzvc area.old) c.pc.0 c.npc.0) }
 {
@@ -87,7 +73,11 @@ fn execute(i: Instruction, db: u32, regs: &mut File, c: OldControl, area: &mut [
         }
         Instruction::Bicc(cond, annul, disp) => branch(c, cond, annul, disp),
         Instruction::Jmpl(rd, rs1, x) => jump(c, regs, rd, rs1, x),
-        _ => finish(c, perform(i, db, regs, c.flags, area)),
+        // the next word, or the end
+        _ => match perform(i, db, regs, c.flags, area) {
+            Ok(flags) => OldControl { flags, ..c }.follow(),
+            Err(end) => c.stop(end),
+        },
     }
 }
 
@@ -117,7 +107,7 @@ impl Program for Image<'_> {
 
     ghost next = { λ i. old_next i.bytes.now i.base };
 
-    fn end(c: OldControl) -> End
+    fn end(c: OldControl) -> Option<End>
         ensures { result ≡ c.end }
     {
         c.end
@@ -139,9 +129,9 @@ pub fn begin(regs: &mut File, c: OldControl, pc: SourcePc) -> OldControl
     regs[0] = 0;
     OldControl {
         pc,
-        npc: further(pc, 4),
+        npc: pc.further(4),
         annul: 0,
-        end: End::Going,
+        end: None,
         ..c
     }
 }

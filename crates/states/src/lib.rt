@@ -1,9 +1,9 @@
 // The states of the cores: their start values, and their register file in a state's bytes.
 #![tactic(auto)]
 
-ghost use Rattle.std.specs.Prelude.{◌≡◌, ℕ, List, ◌+◌, ◌*◌, ◌-◌, ◌≤◌, ◌++◌, length, take, drop};
-ghost use Rattle.numbers.specs.Number.{bytes_of};
-ghost use Rattle.machine.specs.Ends.{ending, halt, live, left, settle};
+ghost use Rattle.std.specs.Prelude.{◌≡◌, ℕ, List, ◌+◌, ◌*◌, ◌%◌, ◌-◌, ◌≤◌, ◌++◌, length, take, drop};
+ghost use Rattle.numbers.specs.Number.{number_at, bytes_of};
+ghost use Rattle.machine.specs.Ends.{ending, ending_from, ending_of, halt, live, settle, standing_of, state};
 ghost use Rattle.machine.specs.Registers.{file_size};
 ghost use Rattle.effects.specs.Effect.{machine};
 ghost use Rattle.model.specs.OldCore.{old, follows};
@@ -16,7 +16,7 @@ ghost use Rattle.states.specs.NewState.{new_start_values, new_of, new_state};
 pub mod program;
 
 use machine::registers::{FILE, File};
-use machine::{End, Flags, SourcePc, TargetPc, further};
+use machine::{End, Ended, Flags, SourcePc, TargetPc};
 
 // The old core's state but for its registers, which are lent beside it.
 #[derive(Clone, Copy)]
@@ -26,10 +26,10 @@ pub struct OldControl {
     pub npc: SourcePc,
     // set where it is not 0: a bool among numbers would be packed and unpacked at each step
     pub annul: u32,
-    pub end: End,
+    pub end: Option<End>,
 }
 
-#[tactic(auto, unfolding(machine::specs::Ends::ending_of))]
+#[tactic(auto, unfolding(machine::specs::Ends::standing_of))]
 impl OldControl {
     // The run goes on: PC becomes nPC, and nPC the address given.
     pub fn advance(self, next: SourcePc, annul: u32) -> Self
@@ -39,7 +39,7 @@ impl OldControl {
             pc: self.npc,
             npc: next,
             annul,
-            end: End::Going,
+            end: None,
             ..self
         }
     }
@@ -48,14 +48,17 @@ impl OldControl {
     pub fn follow(self) -> Self
         ensures { (rs a : List ℕ) → old_state rs result a ≡ live (follows self.npc.0 (machine rs self.flags.nzvc a)) }
     {
-        self.advance(further(self.npc, 4), 0)
+        self.advance(self.npc.further(4), 0)
     }
 
     // The run ends, and nothing else changes.
     pub fn stop(self, end: End) -> Self
-        ensures { (rs a : List ℕ) → old_state rs result a ≡ left (old_of rs self a) end }
+        ensures { (rs a : List ℕ) → old_state rs result a ≡ state (old_of rs self a) (ending_of end) }
     {
-        OldControl { end, ..self }
+        OldControl {
+            end: Some(end),
+            ..self
+        }
     }
 }
 
@@ -79,7 +82,7 @@ impl OldCore {
                 pc: SourcePc(0),
                 npc: SourcePc(0),
                 annul: 0,
-                end: End::Going,
+                end: None,
             },
         }
     }
@@ -91,10 +94,10 @@ pub struct NewControl {
     pub flags: Flags,
     pub at: TargetPc,
     pub held: SourcePc,
-    pub end: End,
+    pub end: Option<End>,
 }
 
-#[tactic(auto, unfolding(machine::specs::Ends::ending_of, machine::specs::Ends::settle))]
+#[tactic(auto, unfolding(machine::specs::Ends::standing_of, machine::specs::Ends::ending_of, machine::specs::Ends::settle))]
 impl NewControl {
     // The run goes on at a record.
     pub fn go_to(self, to: TargetPc) -> Self
@@ -102,7 +105,7 @@ impl NewControl {
     {
         NewControl {
             at: to,
-            end: End::Going,
+            end: None,
             ..self
         }
     }
@@ -116,9 +119,12 @@ impl NewControl {
 
     // The run ends, and nothing else changes.
     pub fn stop(self, end: End) -> Self
-        ensures { (rs a : List ℕ) → new_state rs result a ≡ left (new_of rs self a) end }
+        ensures { (rs a : List ℕ) → new_state rs result a ≡ state (new_of rs self a) (ending_of end) }
     {
-        NewControl { end, ..self }
+        NewControl {
+            end: Some(end),
+            ..self
+        }
     }
 
     // The record at hand is a bad one.
@@ -148,7 +154,7 @@ impl NewCore {
                 flags: Flags::CLEAR,
                 at: TargetPc(0),
                 held: SourcePc(0),
-                end: End::Going,
+                end: None,
             },
         }
     }
@@ -179,6 +185,28 @@ pub fn file_in(bytes: &[u8], behind: usize, regs: &mut File)
 {
     read_file(bytes, behind, regs);
     windows::come_in(regs);
+}
+
+// The flags of a state's bytes: their number's low four bits count.
+pub fn flags_in(bytes: &[u8]) -> Flags
+    requires { 132 ≤ length bytes.now }
+    ensures { result.nzvc ≡ number_at bytes.now 128 % 16 }
+{
+    Flags {
+        nzvc: numbers::read_number(bytes, 128) % 16,
+    }
+}
+
+// The end that stands in a state's bytes at a position, with the number beside it.
+pub fn end_in(bytes: &[u8], at: usize) -> Option<End>
+    requires { at + 8 ≤ length bytes.now }
+    ensures { standing_of result ≡ ending_from (number_at bytes.now at) (number_at bytes.now (at + 4)) }
+{
+    Ended {
+        end: numbers::read_number(bytes, at),
+        number: numbers::read_number(bytes, at + 4),
+    }
+    .into()
 }
 
 // Fills a state's bytes: the registers, the flags and a core's own numbers, and what the file has behind the registers.

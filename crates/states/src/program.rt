@@ -1,5 +1,5 @@
 // Runs of either core, over what it runs.
-ghost use Rattle.std.specs.Prelude.{◌≡◌, ℕ, List};
+ghost use Rattle.std.specs.Prelude.{◌≡◌, ℕ, List, Option};
 ghost use Rattle.machine.specs.declared.End.{End};
 ghost use Rattle.machine.specs.Ends.{Next, left, settle};
 ghost use Rattle.model.specs.Run.{run, zeroed, data_of, beyond, lent};
@@ -16,11 +16,11 @@ pub trait Program {
 
     ghost whole: { List ℕ → Self.Control → List ℕ → Whole };
 
-    ghost ended: { Self.Control → End };
+    ghost ended: { Self.Control → Option End };
 
     ghost next: { Self → ℕ → Whole → Next Whole };
 
-    fn end(c: Self::Control) -> End
+    fn end(c: Self::Control) -> Option<End>
         ensures { result ≡ ended c };
 
     fn step(&self, db: u32, regs: &mut File, c: Self::Control, area: &mut [u8]) -> Self::Control
@@ -39,7 +39,7 @@ fn steps<P: Program>(
     ensures { left (P.whole regs.new result area.new) (P.ended result) ≡ run (P.next program.now db) count (left (P.whole regs.old c area.old) (P.ended c)) }
 {
     for _ in 0..count {
-        if !machine::is_going(P::end(c)) {
+        if P::end(c).is_some() {
             break;
         }
         c = program.step(db, regs, c, area);
