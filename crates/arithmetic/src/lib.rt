@@ -25,24 +25,18 @@ fn complement(x: u32) -> u32
     4294967295 - x
 }
 
-fn low5(x: u32) -> u32
-    ensures { result ≡ x % 32 }
-{
-    x % 32
-}
-
 #[tactic(auto, unfolding(crate::specs::Arithmetic::shifted_left))]
 fn sll(a: u32, b: u32) -> u32
     ensures { result ≡ shifted_left a b }
 {
-    a << low5(b)
+    a << (b % 32)
 }
 
 #[tactic(auto, unfolding(crate::specs::Arithmetic::shifted_right))]
 fn srl(a: u32, b: u32) -> u32
     ensures { result ≡ shifted_right a b }
 {
-    a >> low5(b)
+    a >> (b % 32)
 }
 
 // The sign comes in from the left.

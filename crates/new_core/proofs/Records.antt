@@ -89,9 +89,9 @@ pub never_taken : (cond : ℕ) (annul : Bool) → annul ≡ false → cond ≡ 0
 unfolding idle_bicc which_of
 never_taken cond annul h e = rw (h, e)
 
-pub may_be_taken : (cond : ℕ) (annul : Bool) → annul ≡ false → (cond ≡ 0 → ⊥) → idle_bicc (which_of cond) annul ≡ false
+pub may_be_taken : (cond : ℕ) (annul : Bool) → (cond ≡ 0 → ⊥) → idle_bicc (which_of cond) annul ≡ false
 unfolding idle_bicc which_of
-may_be_taken cond annul h n = rw (h, ne_eqb cond 0 n) (either (λ (w : Which). idle_bicc w false ≡ false) (eqb cond 8) always depends refl refl)
+may_be_taken cond annul n = rw (ne_eqb cond 0 n) (either (λ (w : Which). idle_bicc w annul ≡ false) (eqb cond 8) always depends refl refl)
 
 -- the record at hand
 pub at_hand : (records : List ℕ) (r : ℕ) → r < length records / 12 → get_elem? (records_in records) r ≡ some (record_at records r)

@@ -2,14 +2,15 @@
 #![tactic(auto)]
 
 ghost use Rattle.std.specs.Prelude.{◌≡◌, List, ℕ};
-ghost use Rattle.machine.specs.Ends.{ending, ending_of};
+ghost use Rattle.machine.specs.Ends.{ending, standing_of};
 ghost use Rattle.windows.specs.Windows.{laid};
 ghost use Rattle.model.specs.Run.{zeroed};
 ghost use Rattle.states.specs.OldState.{old_state};
 ghost use Rattle.model.specs.StateBytes.{old_in, old_bytes, after, old_begins, old_runs};
 
 use machine::registers::{FILE, File};
-use machine::{Ended, Flags, SourcePc};
+use machine::{Ended, SourcePc};
+use old_core::Image;
 use states::{OLD_BEHIND, OLD_STATE, OldControl};
 
 // The state that bytes stand for, its file lent.
@@ -17,37 +18,30 @@ fn decode(state: &[u8; OLD_STATE], regs: &mut File) -> OldControl
     ensures { (a : List ℕ) → old_state (zeroed regs.new) result a ≡ old_in state.now a }
 {
     states::file_in(state, OLD_BEHIND, regs);
-    let nzvc = numbers::read_number(state, 128) % 16;
-    let p = SourcePc(numbers::read_number(state, 132));
-    let n = SourcePc(numbers::read_number(state, 136));
-    let a = numbers::read_number(state, 140);
-    let e = machine::end_from(
-        numbers::read_number(state, 144),
-        numbers::read_number(state, 148),
-    );
-    let f = Flags { nzvc };
     OldControl {
-        flags: f,
-        pc: p,
-        npc: n,
-        annul: a,
-        end: e,
+        flags: states::flags_in(state),
+        pc: SourcePc(numbers::read_number(state, 132)),
+        npc: SourcePc(numbers::read_number(state, 136)),
+        annul: numbers::read_number(state, 140),
+        end: states::end_in(state, 144),
     }
 }
 
 // The bytes of a state, the current window among the others, and how it ended.
 fn encode(regs: &mut File, c: OldControl, state: &mut [u8; OLD_STATE]) -> Ended
-    ensures { (ending result.end result.number ≡ ending_of c.end) × (regs.new ≡ laid regs.old) × ((a : List ℕ) → state.new ≡ old_bytes (old_state regs.old c a)) }
+    ensures { (ending result.end result.number ≡ standing_of c.end) × (regs.new ≡ laid regs.old) × ((a : List ℕ) → state.new ≡ old_bytes (old_state regs.old c a)) }
 {
-    let f = c.flags;
-    let p = c.pc;
-    let n = c.npc;
-    let e = c.end;
-    let r = machine::numbers_of(e);
-    let annul = machine::bit(c.annul != 0);
-    let rest = [f.nzvc, p.0, n.0, annul, r.end, r.number];
+    let ended = Ended::from(c.end);
+    let rest = [
+        c.flags.nzvc,
+        c.pc.0,
+        c.npc.0,
+        machine::bit(c.annul != 0),
+        ended.end,
+        ended.number,
+    ];
     states::put_state(state, regs, &rest);
-    r
+    ended
 }
 
 // Begins at an address: registers, flags, Y, nesting and windows stay.
@@ -73,6 +67,6 @@ pub fn pijorrel_old_run(
 {
     let mut regs = [0u32; FILE];
     let c = decode(state, &mut regs);
-    let k = old_core::run(image, base, db, &mut regs, c, area, count);
+    let k = old_core::run(&Image { bytes: image, base }, db, &mut regs, c, area, count);
     encode(&mut regs, k, state)
 }

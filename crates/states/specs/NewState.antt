@@ -1,6 +1,5 @@
 -- The new core's state as a value of the code.
-use Rattle.std.specs.Prelude.{List, replicate, ℕ}
-use Rattle.machine.specs.declared.End.TheVariants.{Going}
+use Rattle.std.specs.Prelude.{List, replicate, ℕ, None}
 use Rattle.machine.specs.Ends.{State, left}
 use Rattle.machine.specs.Registers.{file_size}
 use Rattle.states.specs.declared.NewControl.{NewControl}
@@ -13,7 +12,7 @@ unfoldable pub new_start_values : NewCore
 new_start_values =
     record {
       registers = replicate file_size 0;
-      control = record { flags = record { nzvc = 0 }; at = record { 0 = 0 }; held = record { 0 = 0 }; end = Going };
+      control = record { flags = record { nzvc = 0 }; at = record { 0 = 0 }; held = record { 0 = 0 }; end = None };
     }
 
 -- registers, control and data as one state

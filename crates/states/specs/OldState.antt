@@ -1,6 +1,5 @@
 -- The old core's state as a value of the code, over a lent area.
-use Rattle.std.specs.Prelude.{ℕ, List, replicate}
-use Rattle.machine.specs.declared.End.TheVariants.{Going}
+use Rattle.std.specs.Prelude.{ℕ, List, replicate, None}
 use Rattle.machine.specs.Ends.{State, left}
 use Rattle.machine.specs.Registers.{file_size}
 use Rattle.states.specs.declared.OldControl.{OldControl}
@@ -20,7 +19,7 @@ start_values =
             pc = record { 0 = 0 };
             npc = record { 0 = 0 };
             annul = 0;
-            end = Going;
+            end = None;
           };
     }
 

@@ -2,7 +2,7 @@ use Rattle.effects.proofs.Effects.{effects_end, after_effect}
 use Rattle.effects.specs.Effect.{machine, Machine}
 use Rattle.old_core.proofs.Words.{no_transfer}
 use mathlib.Core.Path.{◌∙◌, sym, ap}
-use Rattle.machine.specs.Ends.{ending_of, settle}
+use Rattle.machine.specs.Ends.{answered, ending_of, settle}
 use Rattle.model.specs.OldCore.{transfer_of, executes, follows, old}
 use Rattle.model.specs.StateBytes.{is_set}
 use Rattle.states.specs.OldState.{old_of}
@@ -25,9 +25,18 @@ pub returns-in-Jmpl : goal.returns-in-Jmpl
 unfolding executes transfer_of
 returns-in-Jmpl c = rw c.in-Jmpl.is (c.jump.ensures _)
 
-pub returns-in_default : goal.returns-in_default
-returns-in_default c = let k = c.args in
+pub returns-in-Ok : goal.returns-in-Ok
+unfolding answered
+returns-in-Ok c = let k = c.args in
     let m = machine k.regs.now k.c.flags.nzvc k.area.now in
-    c.finish.ensures _ _
-    ∙ after_effect (λ (x : Machine). old x k.c.pc.0 k.c.npc.0 (is_set k.c.annul)) (follows k.c.npc.0) _ _ _ _ _ _ _ _ (effects_end k.db k.i m) c.perform.ensures
+    let e = after_effect (λ (x : Machine). old x k.c.pc.0 k.c.npc.0 (is_set k.c.annul)) (follows k.c.npc.0) _ _ _ _ _ _ _ (effects_end k.db k.i m) c.perform.ensures in
+    c.follow.ensures _ _ ∙ (rw c.in-Ok.is at e)
+    ∙ ap (settle (old_of k.regs.now k.c k.area.now)) (sym (no_transfer k.db k.i m k.c.pc.0 k.c.npc.0 (opened c.in_default.in_default-own.keys5)))
+
+pub returns-in-Err : goal.returns-in-Err
+unfolding answered
+returns-in-Err c = let k = c.args in
+    let m = machine k.regs.now k.c.flags.nzvc k.area.now in
+    let e = after_effect (λ (x : Machine). old x k.c.pc.0 k.c.npc.0 (is_set k.c.annul)) (follows k.c.npc.0) _ _ _ _ _ _ _ (effects_end k.db k.i m) c.perform.ensures in
+    c.stop-in-Err.ensures _ _ ∙ (rw c.in-Err.is at e)
     ∙ ap (settle (old_of k.regs.now k.c k.area.now)) (sym (no_transfer k.db k.i m k.c.pc.0 k.c.npc.0 (opened c.in_default.in_default-own.keys5)))

@@ -1,0 +1,10 @@
+use Rattle.old_core.proofs.Words.{annulled, not_annulled, is_set_lem, is_clear}
+use mathlib.Core.Path.{sym, ap, ◌∙◌}
+use Rattle.machine.specs.Ends.{settle}
+use Rattle.old_core.proofs.ImageProgram.step.Goals as goal
+
+pub returns-then-c-ne0 : goal.returns-then-c-ne0
+returns-then-c-ne0 c = c.follow.ensures _ _ ∙ annulled _ _ _ _ _ _ _ (is_set_lem _ c.if-c-ne0.true)
+
+pub returns : goal.returns
+returns c = c.fetch.ensures ∙ ap (settle _) (sym (not_annulled _ _ _ _ _ _ _ (is_clear _ c.if-c-ne0.false)))
