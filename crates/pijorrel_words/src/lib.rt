@@ -6,7 +6,7 @@ ghost use Rattle.words.specs.Reader.{format2_of};
 ghost use Rattle.words.specs.Writer.{written_of};
 ghost use Rattle.pijorrel_words.specs.Forms.{with_operand, six_of, operand_from, by_op, instruction_from, answer_of, writes, reads};
 
-use words::{Instruction, Operand, Written};
+use words::{Instruction, Operand, Sources, Unfit};
 
 // 0 and the word, or 7 and the bits of the field.
 #[repr(C)]
@@ -45,7 +45,7 @@ fn operand_from(mark: u32, v: u32) -> Operand
 }
 
 // The word of a form of format 2. It is put together by its op3: an instruction between would take that apart first.
-fn write2(op3: u32, rd: u32, rs1: u32, x: Operand) -> Written
+fn write2(op3: u32, rd: u32, rs1: u32, x: Operand) -> Result<u32, Unfit>
     ensures { result ≡ written_of (format2_of op3 rd rd rs1 x) }
 {
     if flows::is_form2(op3) {
@@ -63,11 +63,11 @@ fn write2(op3: u32, rd: u32, rs1: u32, x: Operand) -> Written
         }
         return writer::long_word(2, rd, op3, rs1, x);
     }
-    Written::Unfit(0)
+    Err(Unfit(0))
 }
 
 // The word of a form of format 2 or 3.
-fn write_by_op(form: u32, rd: u32, rs1: u32, x: Operand) -> Written
+fn write_by_op(form: u32, rd: u32, rs1: u32, x: Operand) -> Result<u32, Unfit>
     ensures { result ≡ written_of (by_op form rd rs1 x) }
 {
     let k = form / 64;
@@ -79,11 +79,11 @@ fn write_by_op(form: u32, rd: u32, rs1: u32, x: Operand) -> Written
             return writer::long_word(3, rd, form % 64, rs1, x);
         }
     }
-    Written::Unfit(0)
+    Err(Unfit(0))
 }
 
 // The word of six numbers.
-fn write_six(form: u32, annul: u32, rd: u32, rs1: u32, mark: u32, v: u32) -> Written
+fn write_six(form: u32, annul: u32, rd: u32, rs1: u32, mark: u32, v: u32) -> Result<u32, Unfit>
     ensures { result ≡ written_of (instruction_from form annul rd rs1 mark v) }
 {
     let a = annul != 0;
@@ -95,18 +95,15 @@ fn write_six(form: u32, annul: u32, rd: u32, rs1: u32, mark: u32, v: u32) -> Wri
     }
 }
 
-fn answer(w: Written) -> PijorrelWritten
-    ensures { result.number ∷ result.value ∷ [] ≡ answer_of w }
-{
-    match w {
-        Written::Fit(word) => PijorrelWritten {
-            number: 0,
-            value: word,
-        },
-        Written::Unfit(n) => PijorrelWritten {
-            number: 7,
-            value: n,
-        },
+impl From<Result<u32, Unfit>> for PijorrelWritten {
+    ghost from_gives = { λ w r. r.number ∷ r.value ∷ [] ≡ answer_of w };
+
+    #[tactic(auto, unfolding(crate::specs::Forms::answer_of))]
+    fn from(w: Result<u32, Unfit>) -> PijorrelWritten {
+        match w {
+            Ok(value) => PijorrelWritten { number: 0, value },
+            Err(Unfit(value)) => PijorrelWritten { number: 7, value },
+        }
     }
 }
 
@@ -120,7 +117,7 @@ pub fn pijorrel_write(instruction: &[u8; 24]) -> PijorrelWritten
     let rs1 = numbers::read_number(instruction, 12);
     let mark = numbers::read_number(instruction, 16);
     let v = numbers::read_number(instruction, 20);
-    answer(write_six(form, annul, rd, rs1, mark, v))
+    PijorrelWritten::from(write_six(form, annul, rd, rs1, mark, v))
 }
 
 // A form without a second operand, and one with it.
@@ -137,29 +134,18 @@ fn plain_six(form: u32, annul: u32, rd: u32, v: u32) -> Six
     }
 }
 
+#[tactic(auto, unfolding(crate::specs::Forms::with_operand))]
 fn six_with(form: u32, rd: u32, rs1: u32, x: Operand) -> Six
     ensures { result.form ∷ result.annul ∷ result.rd ∷ result.rs1 ∷ result.mark ∷ result.value ∷ [] ≡ with_operand form rd rs1 x }
 {
-    match x {
-        Operand::Register(i) => {
-            let k = low32(i);
-            Six {
-                form,
-                annul: 0,
-                rd,
-                rs1,
-                mark: 0,
-                value: k,
-            }
-        }
-        Operand::Constant(k) => Six {
-            form,
-            annul: 0,
-            rd,
-            rs1,
-            mark: 1,
-            value: k,
-        },
+    let (mark, value) = match x {
+        Operand::Register(i) => (0, low32(i)),
+        Operand::Constant(k) => (1, k),
+    };
+    Six {
+        rs1,
+        mark,
+        ..plain_six(form, 0, rd, value)
     }
 }
 
@@ -170,7 +156,7 @@ fn six_of(i: Instruction) -> Six
         Instruction::Illegal => plain_six(0, 0, 0, 0),
         Instruction::Call(disp) => plain_six(64, 0, 0, disp),
         Instruction::Sethi(rd, imm) => plain_six(4, 0, rd, imm),
-        Instruction::Bicc(cond, annul, disp) => plain_six(2, writer::one_bit(annul), cond, disp),
+        Instruction::Bicc(cond, annul, disp) => plain_six(2, u32::from(annul), cond, disp),
         Instruction::Arithmetic(o, cc, rd, rs1, x) => six_with(
             128 + writer::arithmetic_op3(o, cc),
             rd,
@@ -183,10 +169,7 @@ fn six_of(i: Instruction) -> Six
         Instruction::Store(w, rd, rs1, x) => six_with(192 + writer::store_op3(w), rd, rs1, x),
         Instruction::Shift(o, rd, rs1, x) => six_with(128 + writer::shift_op3(o), rd, rs1, x),
         Instruction::Rdy(rd) => plain_six(168, 0, rd, 0),
-        Instruction::Wry(s) => {
-            let x = s.operand;
-            six_with(176, 0, s.rs1, x)
-        }
+        Instruction::Wry(Sources { rs1, operand }) => six_with(176, 0, rs1, operand),
         Instruction::Window(o, rd, rs1, x) => six_with(128 + writer::window_op3(o), rd, rs1, x),
     }
 }

@@ -247,15 +247,7 @@ fn high6(word: u32) -> u32
     bits(word, 7, 6)
 }
 
-// Whether a bit is set that is unused where the second operand is a register.
-#[tactic(auto, unfolding(crate::specs::Reader::register_strays, crate::specs::Reader::set_from))]
-fn register_strays(word: u32) -> bool
-    ensures { result ≡ register_strays word }
-{
-    !constant_bit(word) && high8(word) != 0
-}
-
-// The same of a Ticc's constant, and of its bit 29.
+// Whether a bit is set that a Ticc does not use beside a constant, or its bit 29.
 #[tactic(auto, unfolding(crate::specs::Reader::set_from))]
 pub fn trap_strays(word: u32) -> bool
     ensures { result ≡ bit_set word 29 || set_from 7 word }
@@ -265,16 +257,21 @@ pub fn trap_strays(word: u32) -> bool
 
 // What each form makes of a word: its fields are cut and its unused bits tested here, by op3 and not before, so that no word pays for another.
 
-// What is made of rd, rs1 and the second operand, unless a bit is set that is unused beside a register.
+// What is made of rd, rs1 and the second operand, unless a bit is set that is unused where this is a register. A constant is told first, and only a
+// register's word is tested.
 #[inline(always)]
+#[tactic(auto, unfolding(crate::specs::Reader::register_strays, crate::specs::Reader::set_from, crate::specs::Reader::operand_of))]
 fn unless_strays<F: FnOnce(u32, u32, Operand) -> Instruction>(word: u32, make: F) -> Instruction
     requires { F.IsAlwaysCallable make }
     ensures { MatchBool (register_strays word) (result ≡ Illegal) (F.post make (bits word 25 5) (bits word 14 5) (operand_of word) result) }
 {
-    if register_strays(word) {
+    if constant_bit(word) {
+        return make(rd(word), rs1(word), Operand::Constant(simm13(word)));
+    }
+    if high8(word) != 0 {
         return Instruction::Illegal;
     }
-    make(rd(word), rs1(word), second_operand(word))
+    make(rd(word), rs1(word), Operand::Register(rs2(word) as usize))
 }
 
 #[tactic(auto, using(crate::proofs::Reader::made), unfolding(crate::specs::Reader::strictly, crate::specs::Reader::unused_set))]

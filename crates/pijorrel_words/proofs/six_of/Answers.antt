@@ -1,4 +1,5 @@
 use Rattle.pijorrel_words.specs.Forms.{six_of}
+use Rattle.words.proofs.Conditions.{one_bit}
 use Rattle.pijorrel_words.proofs.six_of.Goals as goal
 
 pub returns-in-Illegal : goal.returns-in-Illegal
@@ -15,7 +16,7 @@ returns-in-Sethi c = rw c.in-Sethi.is c.plain_six-in-Sethi.ensures
 
 pub returns-in-Bicc : goal.returns-in-Bicc
 unfolding six_of
-returns-in-Bicc c = rw (c.in-Bicc.is, ← c.one_bit.ensures) c.plain_six-in-Bicc.ensures
+returns-in-Bicc c = rw (c.in-Bicc.is, one_bit c.in-Bicc.annul _ c.from.ensures) c.plain_six-in-Bicc.ensures
 
 pub returns-in-Arithmetic : goal.returns-in-Arithmetic
 unfolding six_of
