@@ -5,7 +5,7 @@ use Rattle.model.proofs.Members.{same_eq}
 use Rattle.model.specs.declared.Place.{Place}
 use Rattle.model.specs.Places.{same_place, member}
 use borrow.Author.Tests.{lt-ltb, le-ltb, ltb-false, eqb-true, eqb-false}
-use Rattle.std.specs.Prelude.{Some, None}
+use Rattle.std.specs.Prelude.{Some, None, is_some}
 use lib.Seq.{get_or-set_same, get_or-set_other}
 use lib.ListN.{length, get_or, set, replicate, length-set, length-replicate, get_or-replicate}
 use lib.Dec.{eqb, ltb, leb-suc-suc, leb-zero}
@@ -299,3 +299,12 @@ pub ready_same : {room : ℕ} {t : List ℕ} {n : ℕ} {heads links : List ℕ} 
     → Ready room t n heads links → Ready room m n heads links
 ready_same {room} {t} {n} {heads} {links} m l s r =
     record { within = r.within; fits = rw l r.fits; few = r.few; index = index_same t m heads links n s r.index }
+
+-- what was looked for is a member of the list exactly where it was found
+pub found_member : (x : Place) (ps : List Place) → is_some (found x ps) ≡ member ps x
+unfolding found
+found_member x ps = sym (member_number x ps ∙ go (ltb (number_of x ps) (length ps)))
+  where
+    go : (b : Bool) → b ≡ is_some (pick b (Some (number_of x ps)) None)
+    go true = refl
+    go false = refl
