@@ -2,7 +2,7 @@
 use Rattle.numbers.proofs.Choice.{either}
 use Rattle.numbers.specs.Choice.{pick}
 use Rattle.model.specs.Places.{unimp_in, which_of, idle_bicc, Which, never, always, depends}
-use Rattle.model.specs.OldCore.{word_in, transfer_of, Transfer, straight, trap, jmpl}
+use Rattle.model.specs.OldCore.{word_in, word_of, transfer_of, Transfer, straight, trap, jmpl}
 use lib.Dec.{eqb}
 use mathlib.Core.List.{List}
 use mathlib.Core.Option.{none, some}
@@ -17,7 +17,7 @@ use Rattle.words.specs.declared.Flow.TheVariants.{Traps, Continues}
 use Rattle.words.specs.Flow.{flow_of}
 use Rattle.std.specs.Prelude.{Option, Some, None, MatchOption}
 use Rattle.words.specs.Reader.{is_unimp}
-use Rattle.places.specs.Control.{word_of, transferred}
+use Rattle.places.specs.Control.{transferred}
 
 -- what does not look at a jmpl's operands can be had from the flow alone
 pub by_flow : {A : Type 0} (f : Transfer → A) → ((rd rs1 : ℕ) (x : Operand) → f (jmpl rd rs1 x) ≡ f (jmpl rd 0 (Constant 0)))

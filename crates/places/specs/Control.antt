@@ -1,15 +1,8 @@
 -- What the code answers of a word, as the definitions of model have it.
-use Rattle.std.specs.Prelude.{ℕ, Some, None}
-use Rattle.std.specs.Prelude.{Option as Maybe}
-use Rattle.std.proofs.Math.Option.{Option, none, some}
 use Rattle.words.specs.declared.Operand.TheVariants.{Constant}
 use Rattle.words.specs.declared.Flow.{Flow}
 use Rattle.words.specs.declared.Flow.TheVariants.{Faults, Continues, Traps, Calls, Branches, Jumps}
 use Rattle.model.specs.OldCore.{Transfer, illegal, straight, trap, call, bicc, jmpl}
-
-unfoldable pub word_of : Maybe ℕ → Option ℕ
-word_of (Some w) = some w
-word_of None = none
 
 -- a transfer with that flow: the rules of places and records do not look at a jmpl's operands, so any will do (`by_flow`)
 unfoldable pub transferred : Flow → Transfer

@@ -7,7 +7,7 @@ use Rattle.words.specs.Reader.{instruction_of}
 use Rattle.words.specs.Flow.{flow_of}
 use Rattle.words.specs.declared.Instruction.{Instruction}
 use Rattle.words.specs.declared.Flow.{Flow}
-use Rattle.model.specs.OldCore.{word_in, transfer_of}
+use Rattle.model.specs.OldCore.{word_in, word_of, transfer_of}
 use Rattle.model.specs.declared.Place.{Place}
 use Rattle.model.specs.declared.Place.TheVariants.{Pair, Held}
 use Rattle.model.specs.Places.{plain, place_at, member, names, names_at, unimp_behind, followers, may_be_held, may_be_held_at, allowed, plains}
@@ -16,7 +16,7 @@ use Rattle.places.proofs.Rows.{length_places}
 use Rattle.places.proofs.Flows.{by_flow, fetched_none, fetched_some}
 use Rattle.places.specs.declared.table.Table.{Table}
 use Rattle.places.specs.Table.{place_of, place_in, places_in}
-use Rattle.places.specs.Control.{word_of, transferred}
+use Rattle.places.specs.Control.{transferred}
 use Rattle.places.specs.Lent.{listed, Kept}
 use borrow.Author.Tests.{lt-ltb, le-ltb}
 use lib.ListN.{length, drop}

@@ -9,7 +9,8 @@ ghost use Rattle.walks.specs.Walk.{handled, Known, Grown};
 
 use crate::worklist::{Refused, add_names, add_plain};
 use machine::SourcePc;
-use places::control::{Image, may_be_held};
+use model::Image;
+use places::control::may_be_held;
 use places::table::Table;
 
 // Handles place i: a held place's word is tested, and it has no followers; another's are added in order.
@@ -19,7 +20,7 @@ fn handle(image: Image<'_>, table: &mut Table<'_>, i: usize) -> Result<(), Refus
     ensures { Known (handled image.entry.bytes.now image.entry.base table.old.room (listed table.old) (place_in table.old.places.now i)) table.old result table.new }
 {
     let p = table.address(i);
-    let Some(word) = image.fetch(p) else {
+    let Some(word) = image.word(p) else {
         return Ok(());
     };
     let flow = flows::read_flow(word);

@@ -6,8 +6,8 @@ ghost use Rattle.places.specs.Control.{transferred};
 ghost use Rattle.walks.specs.Walk.{Grown};
 
 use machine::{SourcePc, further};
-use model::{Place, target};
-use places::control::{Image, untaken};
+use model::{Image, Place, target};
+use places::control::{unimp_behind, untaken};
 use places::table::{Table, address_of};
 use words::Flow;
 
@@ -68,7 +68,7 @@ fn add_returns(image: Image<'_>, table: &mut Table<'_>, p: SourcePc) -> Result<(
     ensures { Grown table.old (return_names (unimp_behind image.entry.bytes.now image.entry.base p.0) p.0) result table.new }
 {
     add_plain(table, further(p, 8))?;
-    if image.unimp_behind(p) {
+    if unimp_behind(image, p) {
         add_plain(table, further(p, 12))?;
     }
     Ok(())

@@ -1,7 +1,0 @@
-use Rattle.model.specs.Places.{unimp_behind}
-use Rattle.places.proofs.Flows.{unimp_fetched}
-use Rattle.places.proofs.control.Image.unimp_behind.Goals as goal
-
-pub returns : goal.returns
-unfolding unimp_behind
-returns c = rw (← c.further.ensures) (unimp_fetched _ _ _ _ c.fetch.ensures c.is_some_and.ensures)
