@@ -308,3 +308,22 @@ found_member x ps = sym (member_number x ps ∙ go (ltb (number_of x ps) (length
     go : (b : Bool) → b ≡ is_some (pick b (Some (number_of x ps)) None)
     go true = refl
     go false = refl
+
+-- what was found, by its number
+module _ (x : Place) (ps : List Place) where
+  pub found_some : {i : ℕ} → Some i ≡ found x ps → (i ≡ number_of x ps) × (ltb (number_of x ps) (length ps) ≡ true)
+  unfolding found
+  found_some {i} e = go (ltb (number_of x ps) (length ps)) refl e
+    where
+      go : (b : Bool) → ltb (number_of x ps) (length ps) ≡ b → Some i ≡ pick b (Some (number_of x ps)) None
+          → (i ≡ number_of x ps) × (ltb (number_of x ps) (length ps) ≡ true)
+      go true t h = (cc, t)
+      go false t h = cc
+
+  pub found_nothing : None ≡ found x ps → ltb (number_of x ps) (length ps) ≡ false
+  unfolding found
+  found_nothing e = go (ltb (number_of x ps) (length ps)) refl e
+    where
+      go : (b : Bool) → ltb (number_of x ps) (length ps) ≡ b → None ≡ pick b (Some (number_of x ps)) None → ltb (number_of x ps) (length ps) ≡ false
+      go true t h = cc
+      go false t h = t

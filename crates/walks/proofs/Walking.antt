@@ -12,7 +12,7 @@ use Rattle.model.specs.declared.Place.{Place}
 use Rattle.model.specs.declared.Place.TheVariants.{Pair, Held}
 use Rattle.model.specs.Places.{plain, place_at, member, names, names_at, unimp_behind, followers, may_be_held, may_be_held_at, allowed, plains}
 use Rattle.model.specs.Walk.{Walked, table, refused, endless, grow, grown, tested, handle, walk, places_of}
-use Rattle.places.proofs.Rows.{length_places}
+use Rattle.places.proofs.Lending.{kept_self, kept_trans, length_listed}
 use Rattle.places.proofs.Flows.{by_flow, fetched_none, fetched_some}
 use Rattle.places.specs.declared.table.Table.{Table}
 use Rattle.places.specs.Table.{place_of, place_in, places_in}
@@ -31,17 +31,6 @@ use Prim.Native.Nat.{ℕ, suc, ◌+◌, ◌*◌, ◌-◌, ◌≤◌, ◌<◌}
 use Rattle.walks.specs.declared.worklist.Refused.{Refused}
 use Rattle.walks.specs.declared.worklist.Refused.TheVariants.{Forbidden, NoRoom}
 use Rattle.walks.specs.Walk.{seen, handled, Known, Grown}
-
--- a table that is lent on, and one that stays
-pub kept_trans : {t u v : Table} → Kept t u → Kept u v → Kept t v
-kept_trans x y = record { bytes = y.bytes ∙ x.bytes; size = y.size ∙ x.size; room = y.room ∙ x.room }
-
-pub kept_self : (t : Table) → Kept t t
-kept_self t = record { bytes = refl; size = refl; room = refl }
-
-length_listed : (t : Table) → length (listed t) ≡ t.index.now.count
-unfolding listed
-length_listed t = length_places t.places.now t.index.now.count
 
 -- adding a place: present, no room, new
 module _ (t : Table) (x : Place) where

@@ -1,5 +1,6 @@
 use Rattle.model.specs.Records.{numbers_in}
-use Rattle.walks.proofs.Walking.{kept_trans, start_on, start_off, start_end}
+use Rattle.places.proofs.Lending.{kept_trans}
+use Rattle.walks.proofs.Walking.{start_on, start_off, start_end}
 use Rattle.walks.specs.Walk.{seen}
 use Rattle.std.proofs.lemmas.Result.{err_from_is_err_and}
 use mathlib.Core.Path.{◌∙◌}

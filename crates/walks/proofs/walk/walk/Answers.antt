@@ -1,4 +1,5 @@
-use Rattle.walks.proofs.Walking.{kept_trans, walk_on, walk_off, walk_end}
+use Rattle.places.proofs.Lending.{kept_trans}
+use Rattle.walks.proofs.Walking.{walk_on, walk_off, walk_end}
 use Rattle.walks.specs.Walk.{seen}
 use Rattle.std.proofs.lemmas.Result.{err_from_is_err_and}
 use native.Mathlib.Omega.{arith}
