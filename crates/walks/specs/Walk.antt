@@ -3,6 +3,8 @@ use Rattle.std.specs.Prelude.{ℕ, ◌≡◌, List, Result, Ok, Err}
 use Rattle.model.specs.declared.Place.{Place}
 use Rattle.model.specs.Places.{allowed}
 use Rattle.model.specs.Walk.{Walked, table, refused, grow, tested}
+use Rattle.model.specs.declared.Refusal.{Refusal}
+use Rattle.model.specs.declared.Refusal.TheVariants as Refusal·
 use Rattle.walks.specs.declared.worklist.Refused.{Refused}
 use Rattle.walks.specs.declared.worklist.Refused.TheVariants.{Forbidden, NoRoom}
 use Rattle.places.specs.declared.table.Table.{Table}
@@ -13,6 +15,11 @@ unfoldable pub seen : Result (Unit {0}) Refused → List Place → Walked
 seen (Ok u) ps = table ps
 seen (Err (Forbidden a)) ps = refused 4 a
 seen (Err (NoRoom a)) ps = refused 5 a
+
+-- the translator's refusal that it is
+unfoldable pub refusal_of : Refused → Refusal
+refusal_of (Forbidden a) = Refusal·.Forbidden a
+refusal_of (NoRoom a) = Refusal·.NoRoom a
 
 -- a place handled, with nothing after it
 unfoldable pub handled : List ℕ → ℕ → ℕ → List Place → Place → Walked

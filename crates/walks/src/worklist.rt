@@ -6,7 +6,7 @@ ghost use Rattle.places.specs.Control.{transferred};
 ghost use Rattle.walks.specs.Walk.{Grown};
 
 use machine::{SourcePc, further};
-use model::{Image, Place, target};
+use model::{Image, Place, Refusal, target};
 use places::control::{unimp_behind, untaken};
 use places::table::{Table, address_of};
 use words::Flow;
@@ -16,6 +16,19 @@ use words::Flow;
 pub enum Refused {
     Forbidden(u32),
     NoRoom(u32),
+}
+
+impl From<Refused> for Refusal {
+    ghost use Rattle.walks.specs.Walk.{refusal_of};
+    ghost from_gives = { λ e r. r ≡ refusal_of e };
+
+    #[tactic(auto, unfolding(crate::specs::Walk::refusal_of))]
+    fn from(e: Refused) -> Refusal {
+        match e {
+            Refused::Forbidden(a) => Refusal::Forbidden(a),
+            Refused::NoRoom(a) => Refusal::NoRoom(a),
+        }
+    }
 }
 
 // Gives a place the next number, unless it is present.
