@@ -4,6 +4,8 @@ use Rattle.numbers.specs.Number.{up_to, numbers_of, bytes_of, zero_from}
 use Rattle.model.specs.declared.Place.{Place}
 use Rattle.places.proofs.Rows.{length_places}
 use Rattle.places.specs.Table.{places_in}
+use Rattle.places.specs.declared.table.Table.{Table}
+use Rattle.places.specs.Lent.{listed}
 use Rattle.groups.proofs.Laying.{first_laid}
 use Rattle.groups.proofs.Putting.{records_same, records_length}
 use Rattle.groups.specs.Layout.{first_in, Laid}
@@ -18,18 +20,25 @@ use Prim.Native.Nat.{ℕ, ◌*◌, ◌/◌, ◌≤◌, ◌<◌}
 use Rattle.model.specs.Translation.{Answer, accepted, Handed, filled, refusal, acceptance, from_walk, translation}
 use Rattle.model.proofs.Accepted.{took}
 use Rattle.model.specs.Walk.{table}
-use Rattle.model.specs.Records.{in_full, rows_of, records_of, records_from, records_numbers, first}
+use Rattle.model.specs.Records.{Grouping, in_full, rows_of, records_of, records_from, records_numbers, first}
 use Rattle.std.specs.Prelude.{Ok, Err}
 use Rattle.model.specs.declared.Refusal.{Refusal}
-use Rattle.model.specs.declared.Refusal.TheVariants.{Forbidden, NoRoom, RecordsShort}
-use Rattle.walks.specs.declared.worklist.Found.{Found}
-use Rattle.walks.specs.declared.worklist.Found.TheVariants as Found·
-use Rattle.walks.specs.Walk.{seen}
+use Rattle.model.specs.declared.Refusal.TheVariants.{RecordsShort}
+use Rattle.model.specs.declared.Refusal.TheVariants as Refusal·
+use Rattle.walks.specs.declared.worklist.Refused.{Refused}
+use Rattle.walks.specs.declared.worklist.Refused.TheVariants.{Forbidden, NoRoom}
+use Rattle.walks.specs.Walk.{seen, refusal_of}
 use Rattle.translator.specs.Handing.{places_counted, records_counted, handed, cleared}
 
 nothing_filled : (l : List ℕ) (n size : ℕ) → n ≡ 0 → filled (numbers_of l n) size ≡ replicate size 0
 unfolding filled numbers_of up_to bytes_of
 nothing_filled l n size e = rw (e, sub-zero size)
+
+-- laying out leaves the places
+pub listed_laid : (t u : Table) {lay : Grouping} {r : ℕ} → Laid lay (listed t) t.index.now.count u.places.now r → u.index.now.count ≡ t.index.now.count
+    → listed u ≡ listed t
+unfolding listed
+listed_laid t u d e = rw e d.kept
 
 -- what is answered, with the buffers t and s
 module _ (pl rl : ℕ) (t s : List ℕ) (lt : length t ≡ pl) (ls : length s ≡ rl) where
@@ -55,20 +64,12 @@ module _ (pl rl : ℕ) (t s : List ℕ) (lt : length t ≡ pl) (ls : length s �
         rw d.kept (records_same (in_full image base) ps (first_laid (in_full image base) ps count t r d)) in
         rw (all_of (first (in_full image base) ps), le-leb r (rl / 12) h, n, d.numbers, e, f, lt, ls)
 
-  -- the end of the walk, by what was found
-  module _ (image : List ℕ) (base : ℕ) {w : Found} where
-    pub ends_forbidden : {a : ℕ} → w ≡ Found·.Forbidden a → (u : List ℕ) → cleared (Err (Forbidden a)) t s ≡ from_walk image base pl rl (seen w u)
-    unfolding from_walk seen places_counted records_counted
-    ends_forbidden {a} e u = rw e (refused_as (Forbidden a))
-
-    pub ends_full : {a : ℕ} → w ≡ Found·.NoRoom a → (u : List ℕ) → cleared (Err (NoRoom a)) t s ≡ from_walk image base pl rl (seen w u)
-    unfolding from_walk seen places_counted records_counted
-    ends_full {a} e u = rw e (refused_as (NoRoom a))
-
-pub ends_places : (image : List ℕ) (base rl : ℕ) (u : List ℕ) {pl ql : ℕ} {w : Found} {n : ℕ} → ql ≡ pl → w ≡ Found·.Places n
-    → from_walk image base ql rl (table (places_in u n)) ≡ from_walk image base pl rl (seen w u)
-unfolding seen
-ends_places image base rl u l e = rw (e, l)
+  -- a walk that was refused
+  pub ends_refused : (image : List ℕ) (base : ℕ) (e : Refused) (ps : List Place)
+      → cleared (Err (refusal_of e)) t s ≡ from_walk image base pl rl (seen (Err e) ps)
+  unfolding from_walk seen refusal_of
+  ends_refused image base (Forbidden a) ps = refused_as (Refusal·.Forbidden a)
+  ends_refused image base (NoRoom a) ps = refused_as (Refusal·.NoRoom a)
 
 -- what an answer counts lies in the buffers
 module _ (image : List ℕ) (base : ℕ) (entries : List ℕ) (pl rl : ℕ) where

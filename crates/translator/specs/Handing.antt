@@ -1,12 +1,19 @@
 -- What the translator's routines leave, beside what model says that is handed back.
-use Rattle.std.specs.Prelude.{ℕ, zero, suc, ◌*◌, List, length, Option, Some, None, Ok, Err}
+use Rattle.std.specs.Prelude.{ℕ, ◌*◌, ◌%◌, not, eqb, List, length, Result, Ok, Err}
+use Rattle.numbers.specs.Choice.{pick}
+use Rattle.model.specs.declared.Refusal.{Refusal}
+use Rattle.model.specs.declared.Refusal.TheVariants.{ImageLength, Base, Entry}
 use Rattle.numbers.specs.Number.{numbers_of}
-use Rattle.model.specs.Translation.{Answer, Handed, filled}
+use Rattle.model.specs.Translation.{Answer, Handed, filled, bad_length, bad_count, first_bad}
 
--- a position counted from 1, where 0 says none
-unfoldable pub position : ℕ → Option ℕ
-position zero = None
-position (suc k) = Some (suc k)
+-- the refusals before the walk: 1 and 2, of an image's length and base, and then 3, of the entries
+unfoldable pub image_checked : ℕ → ℕ → Result (Unit {0}) Refusal
+image_checked size base = pick (bad_length size) (Err (ImageLength size)) (pick (not (eqb (base % 4) 0)) (Err (Base base)) (Ok tt))
+
+unfoldable pub entries_checked : ℕ → ℕ → List ℕ → Result (Unit {0}) Refusal
+entries_checked size base es =
+    let bad = first_bad base size 0 es in
+    pick (bad_count (length es)) (Err (Entry 0)) (pick (not (eqb bad 0)) (Err (Entry bad)) (Ok tt))
 
 -- the places and records that an answer counts
 unfoldable pub places_counted : Answer → ℕ

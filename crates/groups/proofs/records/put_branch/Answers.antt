@@ -1,33 +1,38 @@
 use Rattle.model.specs.Records.{numbered}
-use Rattle.groups.proofs.Grouping.{never_group, always_group, annulled_group, depends_group}
 use Rattle.groups.specs.Layout.{recorded}
-use Rattle.groups.proofs.Putting.{puts_one, puts_two, puts_as, room_one, room_two}
+use Rattle.groups.proofs.Grouping.{never_group, always_group, annulled_group, depends_group}
+use Rattle.groups.proofs.Putting.{puts_one, puts_two, room_one, room_first, room_second}
+use native.Mathlib.Omega.{arith}
 use Rattle.groups.proofs.records.put_branch.Goals as goal
 
-pub put_one-requires : goal.put_one-requires
-put_one-requires c = room_one _ (never_group _ _ _ _ c.if-cond-eq0.true) c.requires.1
+pub push-requires : goal.push-requires
+push-requires c = room_one c.args.records.now (never_group _ _ _ _ c.in-0.is) c.requires
 
-pub returns-then-cond-eq0 : goal.returns-then-cond-eq0
+pub returns-in-0 : goal.returns-in-0
 unfolding numbered recorded
-returns-then-cond-eq0 c = puts_as (never_group _ _ _ _ c.if-cond-eq0.true) (puts_one _ _ _ _ _ c.put_one.ensures (rw (c.first_of_plain-f.ensures, c.untaken.ensures)))
+returns-in-0 c = puts_one _ (never_group _ _ _ _ c.in-0.is) (rw (c.first_of_plain.ensures, c.untaken.ensures)) c.push.ensures
 
-pub put_one-requires-then-annul : goal.put_one-requires-then-annul
-put_one-requires-then-annul c = room_one _ (annulled_group _ _ _ _ c.if-cond-eq8.true c.if-annul.true) c.requires.1
+pub push-requires-in-8 : goal.push-requires-in-8
+push-requires-in-8 c = room_one c.args.records.now (annulled_group _ _ _ _ c.in-8.is c.if-annul.true) c.requires
 
-pub returns-then-annul : goal.returns-then-annul
+pub returns-in-8 : goal.returns-in-8
 unfolding numbered recorded
-returns-then-annul c = puts_as (annulled_group _ _ _ _ c.if-cond-eq8.true c.if-annul.true) (puts_one _ _ _ _ _ c.put_one-then-annul.ensures (rw c.first_of_plain-f-then-annul.ensures))
+returns-in-8 c = puts_one _ (annulled_group _ _ _ _ c.in-8.is c.if-annul.true) (rw c.first_of_plain-in-8.ensures) c.push-in-8.ensures
 
-pub put_one-requires-then-cond-eq8 : goal.put_one-requires-then-cond-eq8
-put_one-requires-then-cond-eq8 c = room_one _ (always_group _ _ _ _ c.if-cond-eq8.true c.if-annul.false) c.requires.1
+pub push-requires-in-8-2 : goal.push-requires-in-8-2
+push-requires-in-8-2 c = room_one c.args.records.now (always_group _ _ _ _ c.in-8.is c.if-annul.false) c.requires
 
-pub returns-then-cond-eq8 : goal.returns-then-cond-eq8
+pub returns-in-8-2 : goal.returns-in-8-2
 unfolding numbered recorded
-returns-then-cond-eq8 c = puts_as (always_group _ _ _ _ c.if-cond-eq8.true c.if-annul.false) (puts_one _ _ _ _ _ c.put_one-then-cond-eq8.ensures (rw c.first_of_pair-f.ensures))
+returns-in-8-2 c = puts_one _ (always_group _ _ _ _ c.in-8.is c.if-annul.false) (rw c.first_record.ensures) c.push-in-8-2.ensures
 
-pub put_two-requires : goal.put_two-requires
-put_two-requires c = room_two _ (depends_group _ _ _ _ c.if-cond-eq0.false c.if-cond-eq8.false) c.requires.1
+pub push-requires-in_default : goal.push-requires-in_default
+push-requires-in_default c = room_first c.args.records.now (depends_group _ _ _ _ (λ e. omega arith) (λ e. omega arith)) c.requires
 
-pub returns : goal.returns
+pub push-requires-in_default-2 : goal.push-requires-in_default-2
+push-requires-in_default-2 c = room_second c.args.records.now (depends_group _ _ _ _ (λ e. omega arith) (λ e. omega arith)) c.requires c.push-in_default.ensures
+
+pub returns-in_default : goal.returns-in_default
 unfolding numbered recorded
-returns c = puts_as (depends_group _ _ _ _ c.if-cond-eq0.false c.if-cond-eq8.false) (puts_two _ _ _ _ _ _ c.put_two.ensures (rw c.first_of_pair-f-2.ensures) (rw (c.first_of_plain-g.ensures, c.untaken-2.ensures)))
+returns-in_default c = puts_two _ (depends_group _ _ _ _ (λ e. omega arith) (λ e. omega arith)) (rw c.first_record-taken.ensures)
+    (rw (c.first_of_plain-other.ensures, c.untaken-in_default.ensures)) c.push-in_default.ensures c.push-in_default-2.ensures

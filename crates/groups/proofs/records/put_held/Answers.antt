@@ -1,57 +1,30 @@
+use Rattle.model.specs.Records.{numbered}
 use Rattle.groups.specs.Layout.{recorded}
-use Rattle.groups.proofs.Putting.{puts_one, puts_two}
-use Rattle.model.specs.Records.{past, held_group_of, numbered}
-use Rattle.places.specs.Control.{transferred}
-use Prim.Native.Nat.{suc, ◌*◌, ◌≤◌}
-use lib.ListN.{length}
+use Rattle.groups.proofs.Grouping.{faults_held, traps_held, others_held}
+use Rattle.groups.proofs.Putting.{puts_one, puts_two, room_one, room_first, room_second}
 use mathlib.Core.Path.{refl}
-use native.Mathlib.Omega.{arith}
 use Rattle.groups.proofs.records.put_held.Goals as goal
 
-pub put_one-requires : goal.put_one-requires
-unfolding past held_group_of transferred
-put_one-requires c = let h : 12 * suc c.args.at ≤ length c.args.records.now = rw c.in-Faults.is at c.requires in omega (arith, h)
+pub push-requires : goal.push-requires
+push-requires c = room_one c.args.records.now (faults_held _ _ c.in-Faults.is) c.requires
 
-pub put_two-requires : goal.put_two-requires
-unfolding past held_group_of transferred
-put_two-requires c = let h : 12 * suc (suc c.args.at) ≤ length c.args.records.now = rw c.in-Continues.is at c.requires in omega (arith, h)
+pub push-requires-in-Traps : goal.push-requires-in-Traps
+push-requires-in-Traps c = room_one c.args.records.now (traps_held _ _ c.in-Traps.is) c.requires
 
-pub put_one-requires-in-Traps : goal.put_one-requires-in-Traps
-unfolding past held_group_of transferred
-put_one-requires-in-Traps c = let h : 12 * suc c.args.at ≤ length c.args.records.now = rw c.in-Traps.is at c.requires in omega (arith, h)
+pub push-requires-in_default : goal.push-requires-in_default
+push-requires-in_default c = room_first c.args.records.now (others_held _ _ _ c.in_default.not-Faults c.in_default.not-Traps) c.requires
 
-pub put_two-requires-in-Calls : goal.put_two-requires-in-Calls
-unfolding past held_group_of transferred
-put_two-requires-in-Calls c = let h : 12 * suc (suc c.args.at) ≤ length c.args.records.now = rw c.in-Calls.is at c.requires in omega (arith, h)
-
-pub put_two-requires-in-Branches : goal.put_two-requires-in-Branches
-unfolding past held_group_of transferred
-put_two-requires-in-Branches c = let h : 12 * suc (suc c.args.at) ≤ length c.args.records.now = rw c.in-Branches.is at c.requires in omega (arith, h)
-
-pub put_two-requires-in-Jumps : goal.put_two-requires-in-Jumps
-unfolding past held_group_of transferred
-put_two-requires-in-Jumps c = let h : 12 * suc (suc c.args.at) ≤ length c.args.records.now = rw c.in-Jumps.is at c.requires in omega (arith, h)
+pub push-requires-in_default-2 : goal.push-requires-in_default-2
+push-requires-in_default-2 c = room_second c.args.records.now (others_held _ _ _ c.in_default.not-Faults c.in_default.not-Traps) c.requires c.push-in_default.ensures
 
 pub returns-in-Faults : goal.returns-in-Faults
-unfolding held_group_of transferred numbered recorded
-returns-in-Faults c = λ first. rw c.in-Faults.is (puts_one first _ _ _ _ c.put_one.ensures refl)
-
-pub returns-in-Continues : goal.returns-in-Continues
-unfolding held_group_of transferred numbered recorded
-returns-in-Continues c = λ first. rw c.in-Continues.is (puts_two first _ _ _ _ _ c.put_two.ensures refl refl)
+unfolding numbered recorded
+returns-in-Faults c = λ first. puts_one first (faults_held _ _ c.in-Faults.is) refl c.push.ensures
 
 pub returns-in-Traps : goal.returns-in-Traps
-unfolding held_group_of transferred numbered recorded
-returns-in-Traps c = λ first. rw c.in-Traps.is (puts_one first _ _ _ _ c.put_one-in-Traps.ensures refl)
+unfolding numbered recorded
+returns-in-Traps c = λ first. puts_one first (traps_held _ _ c.in-Traps.is) refl c.push-in-Traps.ensures
 
-pub returns-in-Calls : goal.returns-in-Calls
-unfolding held_group_of transferred numbered recorded
-returns-in-Calls c = λ first. rw c.in-Calls.is (puts_two first _ _ _ _ _ c.put_two-in-Calls.ensures refl refl)
-
-pub returns-in-Branches : goal.returns-in-Branches
-unfolding held_group_of transferred numbered recorded
-returns-in-Branches c = λ first. rw c.in-Branches.is (puts_two first _ _ _ _ _ c.put_two-in-Branches.ensures refl refl)
-
-pub returns-in-Jumps : goal.returns-in-Jumps
-unfolding held_group_of transferred numbered recorded
-returns-in-Jumps c = λ first. rw c.in-Jumps.is (puts_two first _ _ _ _ _ c.put_two-in-Jumps.ensures refl refl)
+pub returns-in_default : goal.returns-in_default
+unfolding numbered recorded
+returns-in_default c = λ first. puts_two first (others_held _ _ _ c.in_default.not-Faults c.in_default.not-Traps) refl refl c.push-in_default.ensures c.push-in_default-2.ensures

@@ -1,62 +1,56 @@
+use Rattle.model.specs.Records.{numbered}
 use Rattle.groups.specs.Layout.{recorded}
-use Rattle.groups.proofs.Putting.{puts_one, puts_two}
-use Rattle.model.specs.Records.{past, group_of, numbered}
-use Rattle.places.specs.Control.{transferred}
-use Rattle.places.specs.Table.{place_of}
-use Rattle.places.proofs.Rows.{shows_held}
-use Prim.Native.Nat.{suc, ◌*◌, ◌≤◌}
-use lib.ListN.{length}
+use Rattle.groups.proofs.Grouping.{faults_group, continues_group, traps_group, calls_group, branches_group, jumps_group}
+use Rattle.groups.proofs.Putting.{puts_one, puts_two, room_one, room_first, room_second}
 use mathlib.Core.Path.{refl}
-use native.Mathlib.Omega.{arith}
 use Rattle.groups.proofs.records.put_word.Goals as goal
 
-pub put_one-requires : goal.put_one-requires
-unfolding past group_of transferred
-put_one-requires c = let h : 12 * suc c.args.at ≤ length c.args.records.now = rw c.in-Faults.is at c.requires.1 in omega (arith, h)
-
-pub put_two-requires : goal.put_two-requires
-unfolding past group_of transferred
-put_two-requires c = let h : 12 * suc (suc c.args.at) ≤ length c.args.records.now = rw c.in-Continues.is at c.requires.1 in omega (arith, h)
-
-pub put_one-requires-in-Traps : goal.put_one-requires-in-Traps
-unfolding past group_of transferred
-put_one-requires-in-Traps c = let h : 12 * suc c.args.at ≤ length c.args.records.now = rw c.in-Traps.is at c.requires.1 in omega (arith, h)
-
-pub put_two-requires-in-Calls : goal.put_two-requires-in-Calls
-unfolding past group_of transferred
-put_two-requires-in-Calls c = let h : 12 * suc (suc c.args.at) ≤ length c.args.records.now = rw c.in-Calls.is at c.requires.1 in omega (arith, h)
-
-pub put_branch-requires : goal.put_branch-requires
-unfolding group_of transferred
-put_branch-requires c = (c.requires.0, rw c.target-t.ensures (rw c.in-Branches.is at c.requires.1))
-
-pub first_record-to-requires : goal.first_record-to-requires
-first_record-to-requires c = (c.requires.0, shows_held _)
-
-pub put_two-requires-in-Jumps : goal.put_two-requires-in-Jumps
-unfolding past group_of transferred
-put_two-requires-in-Jumps c = let h : 12 * suc (suc c.args.at) ≤ length c.args.records.now = rw c.in-Jumps.is at c.requires.1 in omega (arith, h)
+pub push-requires : goal.push-requires
+push-requires c = room_one c.args.records.now (faults_group _ _ _ c.in-Faults.is) c.requires
 
 pub returns-in-Faults : goal.returns-in-Faults
-unfolding group_of transferred numbered recorded
-returns-in-Faults c = rw c.in-Faults.is (puts_one _ _ _ _ _ c.put_one.ensures refl)
+unfolding numbered recorded
+returns-in-Faults c = puts_one _ (faults_group _ _ _ c.in-Faults.is) refl c.push.ensures
+
+pub push-requires-in-Continues : goal.push-requires-in-Continues
+push-requires-in-Continues c = room_first c.args.records.now (continues_group _ _ _ c.in-Continues.is) c.requires
+
+pub push-requires-in-Continues-2 : goal.push-requires-in-Continues-2
+push-requires-in-Continues-2 c = room_second c.args.records.now (continues_group _ _ _ c.in-Continues.is) c.requires c.push-in-Continues.ensures
 
 pub returns-in-Continues : goal.returns-in-Continues
-unfolding group_of transferred numbered recorded
-returns-in-Continues c = rw c.in-Continues.is (puts_two _ _ _ _ _ _ c.put_two.ensures refl (rw c.first_of_plain-to.ensures))
+unfolding numbered recorded
+returns-in-Continues c = puts_two _ (continues_group _ _ _ c.in-Continues.is) refl (rw c.first_of_plain.ensures) c.push-in-Continues.ensures c.push-in-Continues-2.ensures
+
+pub push-requires-in-Traps : goal.push-requires-in-Traps
+push-requires-in-Traps c = room_one c.args.records.now (traps_group _ _ _ c.in-Traps.is) c.requires
 
 pub returns-in-Traps : goal.returns-in-Traps
-unfolding group_of transferred numbered recorded
-returns-in-Traps c = rw c.in-Traps.is (puts_one _ _ _ _ _ c.put_one-in-Traps.ensures refl)
+unfolding numbered recorded
+returns-in-Traps c = puts_one _ (traps_group _ _ _ c.in-Traps.is) refl c.push-in-Traps.ensures
+
+pub push-requires-in-Calls : goal.push-requires-in-Calls
+push-requires-in-Calls c = room_first c.args.records.now (calls_group _ _ _ c.in-Calls.is) c.requires
+
+pub push-requires-in-Calls-2 : goal.push-requires-in-Calls-2
+push-requires-in-Calls-2 c = room_second c.args.records.now (calls_group _ _ _ c.in-Calls.is) c.requires c.push-in-Calls.ensures
 
 pub returns-in-Calls : goal.returns-in-Calls
-unfolding group_of transferred numbered recorded
-returns-in-Calls c = rw c.in-Calls.is (puts_two _ _ _ _ _ _ c.put_two-in-Calls.ensures refl (rw (c.first_of_pair-to.ensures, c.target.ensures)))
+unfolding numbered recorded
+returns-in-Calls c = puts_two _ (calls_group _ _ _ c.in-Calls.is) refl (rw (c.first_record.ensures, c.target.ensures)) c.push-in-Calls.ensures c.push-in-Calls-2.ensures
+
+pub put_branch-requires : goal.put_branch-requires
+put_branch-requires c = rw (c.target-in-Branches.ensures, ← branches_group c.args.word c.args.p.0 c.args.n.0 c.in-Branches.is) c.requires
 
 pub returns-in-Branches : goal.returns-in-Branches
-unfolding group_of transferred
-returns-in-Branches c = rw (c.in-Branches.is, ← c.target-t.ensures) c.put_branch.ensures
+returns-in-Branches c = rw (branches_group c.args.word c.args.p.0 c.args.n.0 c.in-Branches.is, ← c.target-in-Branches.ensures) c.put_branch.ensures
+
+pub push-requires-in-Jumps : goal.push-requires-in-Jumps
+push-requires-in-Jumps c = room_first c.args.records.now (jumps_group _ _ _ c.in-Jumps.is) c.requires
+
+pub push-requires-in-Jumps-2 : goal.push-requires-in-Jumps-2
+push-requires-in-Jumps-2 c = room_second c.args.records.now (jumps_group _ _ _ c.in-Jumps.is) c.requires c.push-in-Jumps.ensures
 
 pub returns-in-Jumps : goal.returns-in-Jumps
-unfolding group_of transferred numbered recorded place_of
-returns-in-Jumps c = rw c.in-Jumps.is (puts_two _ _ _ _ _ _ c.put_two-in-Jumps.ensures refl (rw c.first_record-to.ensures))
+unfolding numbered recorded
+returns-in-Jumps c = puts_two _ (jumps_group _ _ _ c.in-Jumps.is) refl (rw c.first_record-in-Jumps.ensures) c.push-in-Jumps.ensures c.push-in-Jumps-2.ensures

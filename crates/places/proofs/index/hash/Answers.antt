@@ -1,7 +1,6 @@
-use Rattle.places.specs.Index.{hash_of}
-use mathlib.Core.Path.{refl}
+use Rattle.places.specs.Index.{hash}
 use Rattle.places.proofs.index.hash.Goals as goal
 
 pub returns : goal.returns
-unfolding hash_of
-returns c = refl
+unfolding hash
+returns c = rw (c.address_of.ensures, c.next_of.ensures)
