@@ -1,4 +1,4 @@
-use Rattle.listing.proofs.Lines.{written_within}
+use Rattle.listing.proofs.Writing.{put_within}
 use Rattle.translator.specs.Handing.{places_counted, records_counted}
 use Rattle.listing.specs.Listing.{answer_text}
 use native.Mathlib.Omega.{arith}
@@ -17,8 +17,8 @@ returns-in-Ok c = let e = c.in-Ok.is in
     let p = rw e at c.requires.0 in
     let q = rw e at c.requires.1 in
     let w = c.put_tables.ensures in
-    rw e (written_within (omega (arith, w.fits, p, q, c.requires.2, c.requires.3)) w)
+    rw e (put_within (omega (arith, w.written.fits, p, q, c.requires.2, c.requires.3)) w)
 
 pub returns-in-Err : goal.returns-in-Err
 unfolding answer_text
-returns-in-Err c = rw (c.in-Err.is, ← c.numbers-number.ensures, ← c.from.ensures) (written_within (omega (arith, c.put_refusal.ensures.fits)) c.put_refusal.ensures)
+returns-in-Err c = rw (c.in-Err.is, ← c.numbers-number.ensures, ← c.from.ensures) (put_within (omega (arith, c.put_refusal.ensures.written.fits)) c.put_refusal.ensures)
