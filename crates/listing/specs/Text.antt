@@ -29,8 +29,9 @@ line_of (v ∷ vs) = decimal v ++ (separator (some_left vs) ∷ line_of vs)
 unfoldable pub inserted : List ℕ → ℕ → List ℕ → List ℕ
 inserted out at text = take at out ++ text ++ drop (at + length text) out
 
--- a text was put at a position, of at most so many bytes, and r is the position past it
+-- a text was put at a position, of at most so many bytes, in a buffer that keeps its length, and r is the position past it
 pub record Written (out : List ℕ) (at : ℕ) (text : List ℕ) (most : ℕ) (out' : List ℕ) (r : ℕ) : Type 0 where
   pub bytes : out' ≡ inserted out at text
   pub end : r ≡ at + length text
   pub fits : length text ≤ most
+  pub kept : length out' ≡ length out

@@ -11,14 +11,14 @@ put_tables-requires c = let e = c.in-Ok.is in
     let q = rw e at c.requires.1 in
     (p, q, omega (arith, p, q, c.requires.2, c.requires.3, c.requires.4))
 
-pub returns-in-Ok : goal.returns-in-Ok
+pub returns-in-Ok-clause-written : goal.returns-in-Ok-clause-written
 unfolding answer_text places_counted records_counted
-returns-in-Ok c = let e = c.in-Ok.is in
+returns-in-Ok-clause-written c = let e = c.in-Ok.is in
     let p = rw e at c.requires.0 in
     let q = rw e at c.requires.1 in
-    let w = c.put_tables.ensures in
+    let w = c.put_tables.ensures.written in
     rw e (written_within (omega (arith, w.fits, p, q, c.requires.2, c.requires.3)) w)
 
-pub returns-in-Err : goal.returns-in-Err
+pub returns-in-Err-clause-written : goal.returns-in-Err-clause-written
 unfolding answer_text
-returns-in-Err c = rw (c.in-Err.is, ← c.numbers-number.ensures, ← c.from.ensures) (written_within (omega (arith, c.put_refusal.ensures.fits)) c.put_refusal.ensures)
+returns-in-Err-clause-written c = rw (c.in-Err.is, ← c.numbers-number.ensures, ← c.from.ensures) (written_within (omega (arith, c.put_refusal.ensures.written.fits)) c.put_refusal.ensures.written)

@@ -4,8 +4,8 @@ use native.Mathlib.Omega.{arith}
 use Rattle.listing.proofs.put_refusal.Goals as goal
 
 pub put_line-requires : goal.put_line-requires
-put_line-requires c = omega (arith, c.put_bytes-a.ensures.end)
+put_line-requires c = let w = c.put_bytes.ensures.written in omega (arith, w.end, w.kept)
 
-pub returns : goal.returns
+pub returns-clause-written : goal.returns-clause-written
 unfolding refusal_text
-returns c = written_more (omega arith) c.put_bytes-a.ensures c.put_line.ensures
+returns-clause-written c = written_more (omega arith) c.put_bytes.ensures.written c.put_line.ensures.written
