@@ -37,7 +37,8 @@ fn put_places(text: &mut Text, places: &[u8], count: usize)
     }
 }
 
-// Puts a line for each of the first records of a list.
+// Puts a line for each of the first records of a list. (One function for both, over a closure from i to an array of N numbers, was tried:
+// a bound `Fn` that names a const parameter gets no proof yet. A trait for rows of either width is longer than both loops.)
 fn put_records(text: &mut Text, records: &[u8], count: usize)
     requires { (12 * count ≤ length records.now) × (text.old.len + 63 * count ≤ length text.old.out.now) }
     ensures same_reference { text.new.out.ghost_name ≡ text.old.out.ghost_name }

@@ -2,17 +2,10 @@ use Rattle.listing.proofs.Lines.{place_turn, no_place_lines}
 use Rattle.listing.proofs.Writing.{goes_on, written_end}
 use Rattle.listing.specs.Listing.{place_lines}
 use lib.ListN.{length}
-use native.Mathlib.Nat.{sub-zero}
 use native.Mathlib.Omega.{arith}
-use mathlib.Core.Path.{refl, ◌∙◌}
+use mathlib.Core.Path.{◌∙◌}
 use Prim.Native.Nat.{◌+◌, ◌-◌, ◌≤◌}
 use Rattle.listing.proofs.put_places.Goals as goal
-
-pub loop-i-init : goal.loop-i-init
-loop-i-init c = (refl, refl, omega arith, rw sub-zero, rw sub-zero)
-
-pub put_line-requires : goal.put_line-requires
-put_line-requires c = omega arith
 
 pub loop-i-preserved : goal.loop-i-preserved
 loop-i-preserved c = let b = c.loop-i in

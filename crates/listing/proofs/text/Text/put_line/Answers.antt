@@ -2,15 +2,9 @@ use Rattle.listing.proofs.Lines.{line_goes, line_end}
 use Rattle.listing.proofs.Writing.{written_end}
 use lib.ListN.{length}
 use native.Mathlib.Omega.{arith}
-use mathlib.Core.Path.{refl, ◌∙◌}
+use mathlib.Core.Path.{◌∙◌}
 use Prim.Native.Nat.{◌≤◌}
 use Rattle.listing.proofs.text.Text.put_line.Goals as goal
-
-pub loop-j-init : goal.loop-j-init
-loop-j-init c = (refl, refl, omega arith, refl, refl)
-
-pub put_bytes-requires : goal.put_bytes-requires
-put_bytes-requires c = let w = c.put_number.ensures.written in omega (arith, w.end, w.fits, w.kept)
 
 pub loop-j-preserved : goal.loop-j-preserved
 loop-j-preserved c = let b = c.loop-j in
