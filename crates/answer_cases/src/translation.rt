@@ -62,6 +62,7 @@ impl<'a> Parts<'a> {
 }
 
 // Whether an answer is the known one.
+#[tactic(auto, unfolding(crate::specs::Translations::answered))]
 fn answers(known: &[u8], r: PijorrelAnswer) -> bool
     ensures { result ≡ answered known.now r.number r.first r.second }
 {

@@ -11,6 +11,7 @@ const WORD: u32 = 0x574F5244;
 const INSTRUCTION: u32 = 0x494E5354;
 
 // Whether six numbers are the known ones.
+#[tactic(auto, using(case_files::proofs::Areas::is_same))]
 fn shows(known: &[u8], six: &[u8]) -> bool
     ensures { result ≡ same_bytes six.now known.now }
 {
@@ -18,6 +19,7 @@ fn shows(known: &[u8], six: &[u8]) -> bool
 }
 
 // Whether writing six numbers has the known answer.
+#[tactic(auto, unfolding(crate::specs::Words::answers_so))]
 fn answers(known: &[u8], six: &[u8; 24]) -> bool
     ensures { result ≡ answers_so known.now six.now }
 {
@@ -26,6 +28,7 @@ fn answers(known: &[u8], six: &[u8; 24]) -> bool
 }
 
 // Reads the word of a case, into a buffer that held other bytes, and writes what is then there.
+#[tactic(auto, unfolding(crate::specs::Words::read_found))]
 fn check_read(case: &Case) -> Found
     ensures { result ≡ read_found case.now.bytes.now case.now.at }
 {
@@ -37,6 +40,7 @@ fn check_read(case: &Case) -> Found
 }
 
 // Writes the six numbers of a case.
+#[tactic(auto, unfolding(crate::specs::Words::written_found))]
 fn check_written(case: &Case) -> Found
     ensures { result ≡ written_found case.now.bytes.now case.now.at }
 {
@@ -48,6 +52,7 @@ fn check_written(case: &Case) -> Found
 }
 
 // Tries a case of either kind. It has one entry.
+#[tactic(auto, unfolding(crate::specs::Words::word_found))]
 pub fn check(case: &Case) -> Found
     ensures { result ≡ word_found case.now.bytes.now case.now.at }
 {

@@ -22,6 +22,7 @@ pub struct Found {
 
 impl Found {
     // The verdict on a case of one entry.
+    #[tactic(auto, using(crate::proofs::Verdicts::bit_of_lem), unfolding(crate::specs::Files::one_entry))]
     pub fn one(next: usize, agrees: bool) -> Found
         ensures { result ≡ one_entry next agrees }
     {

@@ -33,6 +33,7 @@ enum Kind {
 }
 
 // How many bytes of data a core's case has.
+#[tactic(auto, unfolding(crate::specs::Kinds::size_at))]
 fn data_size(core: Core, case: &Case) -> usize
     ensures { result ≡ number_in case.now.bytes.now (case.now.at + size_at core) }
 {
@@ -58,6 +59,7 @@ fn check_run(core: Core, case: &Case) -> Found
 }
 
 // Runs a case.
+#[tactic(auto, unfolding(crate::specs::Kinds::found))]
 fn check(kind: Kind, case: &Case) -> Found
     ensures { result ≡ found kind case.now.bytes.now case.now.at }
 {

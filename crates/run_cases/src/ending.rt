@@ -7,6 +7,7 @@ use case_files::number;
 use machine::Ended;
 
 // Whether a run ended in the known state, which has its end at a position, with the number beside it.
+#[tactic(auto, using(case_files::proofs::Areas::is_same), unfolding(crate::specs::Runs::ended_in))]
 pub(crate) fn ended_in(known: &[u8], at: usize, state: &[u8], r: Ended) -> bool
     requires { at < 2 ^ 32 }
     ensures { result ≡ ended_in known.now at (ending r.end r.number) state.now }

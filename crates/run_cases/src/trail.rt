@@ -13,6 +13,7 @@ const TAG: u32 = 0x5452414C;
 const ENTRY: usize = 140;
 
 // Whether a state that has not ended is the one that an entry recorded.
+#[tactic(auto, using(case_files::proofs::Areas::is_same), unfolding(crate::specs::Trails::stands_at))]
 fn stands_at(state: &[u8], entry: &[u8]) -> bool
     ensures { result ≡ stands_at state.now entry.now }
 {
