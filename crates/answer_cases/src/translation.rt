@@ -67,8 +67,8 @@ fn answers(known: &[u8], r: PijorrelAnswer) -> bool
     ensures { result ≡ answered known.now r.number r.first r.second }
 {
     (r.number == number(known, 0))
-        & (r.first == number(known, 4) as u64)
-        & (r.second == number(known, 8) as u64)
+        & (r.first == u64::from(number(known, 4)))
+        & (r.second == u64::from(number(known, 8)))
 }
 
 // Runs a case in buffers of its lengths. It has one entry.

@@ -70,7 +70,3 @@ module _ (bytes : List ℕ) (count i : ℕ) (h : count ≤ i) where
   pub no_record_lines : record_lines bytes (count - i) i ≡ []
   unfolding record_lines
   no_record_lines = rw none
-
--- a text within a larger bound
-pub written_within : {out out1 text : List ℕ} {at m n r : ℕ} → length text ≤ n → Written out at text m out1 r → Written out at text n out1 r
-written_within h x = record { bytes = x.bytes; end = x.end; fits = h; kept = x.kept }

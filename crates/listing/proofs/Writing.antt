@@ -7,7 +7,8 @@ use native.Mathlib.Omega.{arith}
 use mathlib.Core.List.{List, [], ◌++◌, append_assoc, append-nil}
 use mathlib.Core.Path.{◌≡◌, sym, ap, ◌∙◌}
 use Prim.Native.Nat.{ℕ, ◌+◌, ◌≤◌}
-use Rattle.listing.specs.Text.{inserted, Written}
+use Rattle.listing.specs.Text.{inserted, Written, Put}
+use Rattle.listing.specs.declared.text.Text.{Text}
 
 pub inserted_none : (out : List ℕ) (at : ℕ) → inserted out at [] ≡ out
 unfolding inserted
@@ -47,3 +48,13 @@ pub written_end : {out out1 : List ℕ} {at most r : ℕ} (text : List ℕ) → 
     → length out1 ≡ length out → Written out at text most out1 r
 written_end {out} {out1} {at} {most} {r} text e l f k =
     record { bytes = sym (inserted_none out1 r) ∙ e; end = omega arith; fits = omega arith; kept = k }
+
+-- the same of a text that holds its buffer
+pub put_more : {a b c : Text} {t u : List ℕ} {m n : ℕ} → a.len ≤ length a.out.now → Put a t m b → Put b u n c → Put a (t ++ u) (m + n) c
+put_more h x y =
+    record { same_reference = y.same_reference ∙ x.same_reference; written = written_more h x.written y.written }
+
+pub put_within : {a b : Text} {t : List ℕ} {m n : ℕ} → length t ≤ n → Put a t m b → Put a t n b
+put_within h x =
+    let w = x.written in
+    record { same_reference = x.same_reference; written = record { bytes = w.bytes; end = w.end; fits = h; kept = w.kept } }

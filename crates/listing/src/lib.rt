@@ -4,7 +4,7 @@
 ghost use Rattle.std.specs.Prelude.{◌≡◌, ◌+◌, ◌*◌, ◌≤◌, [], ◌∷◌, length};
 ghost use Rattle.numbers.specs.Number.{number_at};
 ghost use Rattle.translator.specs.Handing.{places_counted, records_counted};
-ghost use Rattle.listing.specs.Text.{Written};
+ghost use Rattle.listing.specs.Text.{Put};
 ghost use Rattle.listing.specs.Listing.{place_lines, record_lines, tables, refusal_text, answer_text, Listed};
 
 use model::Answer;
@@ -25,8 +25,7 @@ fn number(bytes: &[u8], at: usize) -> u64
 // Puts a line for each of the first places of a table.
 fn put_places(text: &mut Text, places: &[u8], count: usize)
     requires { (16 * count ≤ length places.now) × (text.old.len + 105 * count ≤ length text.old.out.now) }
-    ensures same_reference { text.new.out.ghost_name ≡ text.old.out.ghost_name }
-    ensures written { Written text.old.out.now text.old.len (place_lines places.now count 0) (105 * count) text.new.out.now text.new.len }
+    ensures { Put text.old (place_lines places.now count 0) (105 * count) text.new }
 {
     for i in 0..count {
         let p = number(places, 16 * i);
@@ -41,8 +40,7 @@ fn put_places(text: &mut Text, places: &[u8], count: usize)
 // a bound `Fn` that names a const parameter gets no proof yet. A trait for rows of either width is longer than both loops.)
 fn put_records(text: &mut Text, records: &[u8], count: usize)
     requires { (12 * count ≤ length records.now) × (text.old.len + 63 * count ≤ length text.old.out.now) }
-    ensures same_reference { text.new.out.ghost_name ≡ text.old.out.ghost_name }
-    ensures written { Written text.old.out.now text.old.len (record_lines records.now count 0) (63 * count) text.new.out.now text.new.len }
+    ensures { Put text.old (record_lines records.now count 0) (63 * count) text.new }
 {
     for i in 0..count {
         let kind = number(records, 12 * i);
@@ -55,8 +53,7 @@ fn put_records(text: &mut Text, records: &[u8], count: usize)
 // Puts n places and m records, each under their names.
 fn put_tables(text: &mut Text, places: &[u8], n: usize, records: &[u8], m: usize)
     requires { (16 * n ≤ length places.now) × (12 * m ≤ length records.now) × (text.old.len + 49 + 105 * n + 63 * m ≤ length text.old.out.now) }
-    ensures same_reference { text.new.out.ghost_name ≡ text.old.out.ghost_name }
-    ensures written { Written text.old.out.now text.old.len (tables places.now n records.now m) (49 + 105 * n + 63 * m) text.new.out.now text.new.len }
+    ensures { Put text.old (tables places.now n records.now m) (49 + 105 * n + 63 * m) text.new }
 {
     text.put_bytes(b"place address next kind record\n");
     put_places(text, places, n);
@@ -67,8 +64,7 @@ fn put_tables(text: &mut Text, places: &[u8], n: usize, records: &[u8], m: usize
 // Puts a refusal's number and its value under their names.
 fn put_refusal(text: &mut Text, number: u64, detail: u64)
     requires { text.old.len + 57 ≤ length text.old.out.now }
-    ensures same_reference { text.new.out.ghost_name ≡ text.old.out.ghost_name }
-    ensures written { Written text.old.out.now text.old.len (refusal_text (number ∷ detail ∷ [])) 57 text.new.out.now text.new.len }
+    ensures { Put text.old (refusal_text (number ∷ detail ∷ [])) 57 text.new }
 {
     text.put_bytes(b"refused detail\n");
     text.put_line(&[number, detail]);
@@ -77,8 +73,7 @@ fn put_refusal(text: &mut Text, number: u64, detail: u64)
 // Puts what a translation answered and left in its buffers.
 fn put_answer(text: &mut Text, answer: Answer, places: &[u8], records: &[u8])
     requires { (16 * places_counted answer ≤ length places.now) × (12 * records_counted answer ≤ length records.now) × (length places.now ≤ 8192) × (length records.now ≤ 12288) × (text.old.len + 131072 ≤ length text.old.out.now) }
-    ensures same_reference { text.new.out.ghost_name ≡ text.old.out.ghost_name }
-    ensures written { Written text.old.out.now text.old.len (answer_text answer places.now records.now) 131072 text.new.out.now text.new.len }
+    ensures { Put text.old (answer_text answer places.now records.now) 131072 text.new }
 {
     match answer {
         Ok(counts) => put_tables(

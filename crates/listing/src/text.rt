@@ -1,6 +1,6 @@
 // Text in a buffer that is lent: bytes, decimal numbers, lines of numbers.
 ghost use Rattle.std.specs.Prelude.{◌≡◌, ◌+◌, ◌*◌, ◌≤◌, ◌<◌, ◌^◌, length};
-ghost use Rattle.listing.specs.Text.{decimal, line_of, separator, Written};
+ghost use Rattle.listing.specs.Text.{decimal, line_of, separator, Put};
 
 // A buffer with the text that was put so far, at its start.
 #[derive(Drop)]
@@ -29,8 +29,7 @@ impl<'a> Text<'a> {
     // Puts bytes.
     pub fn put_bytes(&mut self, bytes: &[u8])
         requires { self.old.len + length bytes.now ≤ length self.old.out.now }
-        ensures same_reference { self.new.out.ghost_name ≡ self.old.out.ghost_name }
-        ensures written { Written self.old.out.now self.old.len bytes.now (length bytes.now) self.new.out.now self.new.len }
+        ensures { Put self.old bytes.now (length bytes.now) self.new }
     {
         let end = self.len + bytes.len();
         self.out[self.len..end].copy_from_slice(bytes);
@@ -40,8 +39,7 @@ impl<'a> Text<'a> {
     // Puts a number in decimal digits.
     fn put_number(&mut self, v: u64)
         requires { self.old.len + 20 ≤ length self.old.out.now }
-        ensures same_reference { self.new.out.ghost_name ≡ self.old.out.ghost_name }
-        ensures written { Written self.old.out.now self.old.len (decimal v) 20 self.new.out.now self.new.len }
+        ensures { Put self.old (decimal v) 20 self.new }
     {
         let mut buffer = itoa::Buffer::new();
         self.put_bytes(buffer.format(v).as_bytes());
@@ -50,8 +48,7 @@ impl<'a> Text<'a> {
     // Puts a line of numbers.
     pub fn put_line(&mut self, numbers: &[u64])
         requires { self.old.len + 21 * length numbers.now ≤ length self.old.out.now }
-        ensures same_reference { self.new.out.ghost_name ≡ self.old.out.ghost_name }
-        ensures written { Written self.old.out.now self.old.len (line_of numbers.now) (21 * length numbers.now) self.new.out.now self.new.len }
+        ensures { Put self.old (line_of numbers.now) (21 * length numbers.now) self.new }
     {
         for (j, v) in numbers.iter().enumerate() {
             self.put_number(*v);

@@ -15,7 +15,7 @@ loop-i-preserved c = let b = c.loop-i in
     let turn = goes_on (place_lines c.args.places.now (c.args.count - (b.i + 1)) (b.i + 1)) _ _ o w (rw z at b.invariant.3) (rw z at b.invariant.4) in
     (c.put_line.ensures.same_reference ∙ b.invariant.0, w.kept ∙ b.invariant.1, omega (arith, w.end, w.fits), turn.0, turn.1)
 
-pub returns-clause-written : goal.returns-clause-written
-returns-clause-written c = let b = c.loop-i in
+pub returns : goal.returns
+returns c = let b = c.loop-i in
     let z = no_place_lines c.args.places.now c.args.count b.i c.loop-i-test.false in
-    written_end _ (rw z at b.invariant.3) (rw z at b.invariant.4) (omega arith) b.invariant.1
+    record { same_reference = b.invariant.0; written = written_end _ (rw z at b.invariant.3) (rw z at b.invariant.4) (omega arith) b.invariant.1 }

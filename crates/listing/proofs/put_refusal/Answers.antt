@@ -1,8 +1,8 @@
-use Rattle.listing.proofs.Writing.{written_more}
+use Rattle.listing.proofs.Writing.{put_more}
 use Rattle.listing.specs.Listing.{refusal_text}
 use native.Mathlib.Omega.{arith}
 use Rattle.listing.proofs.put_refusal.Goals as goal
 
-pub returns-clause-written : goal.returns-clause-written
+pub returns : goal.returns
 unfolding refusal_text
-returns-clause-written c = written_more (omega arith) c.put_bytes.ensures.written c.put_line.ensures.written
+returns c = put_more (omega arith) c.put_bytes.ensures c.put_line.ensures

@@ -7,12 +7,15 @@ use native.Mathlib.Omega.{arith}
 use mathlib.Core.Path.{refl, ◌∙◌}
 use Rattle.listing.proofs.text.Text.put_bytes.Goals as goal
 
-pub returns-clause-written : goal.returns-clause-written
+pub returns : goal.returns
 unfolding inserted
-returns-clause-written c =
+returns c =
     record {
-      bytes = put_mid-paste _ _ _ _ c.args.bytes.now (length c.args.bytes.now) c.copy_from_slice.ensures.after (omega arith) refl ∙ rw (take-length c.args.bytes.now);
-      end = refl;
-      fits = omega arith;
-      kept = search rules;
+      same_reference = refl;
+      written = record {
+        bytes = put_mid-paste _ _ _ _ c.args.bytes.now (length c.args.bytes.now) c.copy_from_slice.ensures.after (omega arith) refl ∙ rw (take-length c.args.bytes.now);
+        end = refl;
+        fits = omega arith;
+        kept = search rules;
+      };
     }

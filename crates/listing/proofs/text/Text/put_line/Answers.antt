@@ -14,7 +14,7 @@ loop-j-preserved c = let b = c.loop-j in
     let turn = line_goes c.args.numbers.now b.j c.loop-j-test.true o w s c.separator.ensures b.invariant.3 b.invariant.4 in
     (c.put_bytes.ensures.same_reference ∙ c.put_number.ensures.same_reference ∙ b.invariant.0, s.kept ∙ w.kept ∙ b.invariant.1, omega (arith, w.end, w.fits, s.end), turn.0, turn.1)
 
-pub returns-clause-written : goal.returns-clause-written
-returns-clause-written c = let b = c.loop-j in
+pub returns : goal.returns
+returns c = let b = c.loop-j in
     let z = line_end c.args.numbers.now b.j c.loop-j-test.false in
-    written_end _ (rw z at b.invariant.3) (rw z at b.invariant.4) (omega arith) b.invariant.1
+    record { same_reference = b.invariant.0; written = written_end _ (rw z at b.invariant.3) (rw z at b.invariant.4) (omega arith) b.invariant.1 }
