@@ -3,7 +3,7 @@ ghost use Rattle.std.specs.Prelude.{◌≡◌};
 ghost use Rattle.case_files.specs.Files.{same_bytes};
 ghost use Rattle.answer_cases.specs.Words.{answers_so, read_found, written_found, word_found};
 
-use case_files::{Case, Found, copy, number, part};
+use case_files::{Case, Found, number, over_zeros, part};
 
 // What a case of either kind starts with.
 const WORD: u32 = 0x574F5244;
@@ -44,8 +44,7 @@ fn check_read(case: &Case) -> Found
 fn check_written(case: &Case) -> Found
     ensures { result ≡ written_found case.now.bytes.now case.now.at }
 {
-    let mut six = [0u8; 24];
-    copy(&mut six, part(case.bytes, case.at + 4, 24));
+    let six: [u8; 24] = over_zeros(part(case.bytes, case.at + 4, 24));
     let answer = part(case.bytes, case.at + 28, 8);
     let agrees = (case.tag() == INSTRUCTION) & answers(answer, &six);
     Found::one(case.at + 36, agrees)

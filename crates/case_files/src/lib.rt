@@ -149,6 +149,15 @@ pub fn copy(to: &mut [u8], from: &[u8])
     to[..n].copy_from_slice(&from[..n]);
 }
 
+// Zeros, over which as many bytes are copied as there are.
+pub fn over_zeros<const N: usize>(from: &[u8]) -> [u8; N]
+    ensures { result ≡ copied (replicate N 0) from.now }
+{
+    let mut area = filled(0);
+    copy(&mut area, from);
+    area
+}
+
 // Whether all bytes of an area are one.
 fn all_are(area: &[u8], byte: u8) -> bool
     ensures { result ≡ list_all (λ x. x == byte) area.now }

@@ -4,7 +4,7 @@ ghost use Rattle.case_files.specs.Files.{checked};
 ghost use Rattle.run_cases.specs.Runs.{old_found};
 
 use crate::ending::ended_in;
-use case_files::{Case, Found, copy};
+use case_files::{Case, Found, copy, over_zeros};
 use states::OLD_STATE;
 
 // What a case starts with.
@@ -18,8 +18,7 @@ pub fn check(case: &Case, area: &mut [u8]) -> Found
     ensures { checked result area.new ≡ old_found case.now.bytes.now case.now.at area.old }
 {
     let p = case.parts(OLD_STATE);
-    let mut state = [0u8; OLD_STATE];
-    copy(&mut state, p.state);
+    let mut state: [u8; OLD_STATE] = over_zeros(p.state);
     copy(area, p.before);
     let r = pijorrel_old::pijorrel_old_run(
         p.image,

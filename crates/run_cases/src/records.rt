@@ -5,7 +5,7 @@ ghost use Rattle.case_files.specs.Files.{part_of, checked};
 ghost use Rattle.run_cases.specs.Runs.{new_parts, new_found};
 
 use crate::ending::ended_in;
-use case_files::{Case, Found, copy, padded, part};
+use case_files::{Case, Found, copy, over_zeros, padded, part};
 use states::NEW_STATE;
 
 // What a case starts with.
@@ -64,8 +64,7 @@ pub fn check(case: &Case, area: &mut [u8]) -> Found
     ensures { checked result area.new ≡ new_found case.now.bytes.now case.now.at area.old }
 {
     let p = Parts::of(case);
-    let mut state = [0u8; NEW_STATE];
-    copy(&mut state, p.state);
+    let mut state: [u8; NEW_STATE] = over_zeros(p.state);
     copy(area, p.before);
     let r = pijorrel_new::pijorrel_new_run(
         p.records,

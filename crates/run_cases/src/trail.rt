@@ -3,7 +3,7 @@ ghost use Rattle.std.specs.Prelude.{◌≡◌};
 ghost use Rattle.case_files.specs.Files.{checked};
 ghost use Rattle.run_cases.specs.Trails.{stands_at, passed, passing, trailed, followed, trail_found};
 
-use case_files::{Case, Found, copy, number, part};
+use case_files::{Case, Found, copy, number, over_zeros, part};
 use states::{OLD_BEHIND, OLD_STATE};
 
 // What a program starts with.
@@ -69,8 +69,7 @@ pub fn check(case: &Case, area: &mut [u8]) -> Found
 {
     let count = case.number(5);
     let p = case.parts(count as usize * ENTRY);
-    let mut state = [0u8; OLD_STATE];
-    copy(&mut state, p.state);
+    let mut state: [u8; OLD_STATE] = over_zeros(p.state);
     copy(area, p.before);
     let program = Program {
         image: p.image,

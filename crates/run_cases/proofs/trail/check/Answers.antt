@@ -9,4 +9,4 @@ unfolding trail_found
 returns c =
     let p = c.parts-p.ensures in
     trail_found_lem c.parts-p.result.next c.tag.result c.number-count.result c.parts-p.result.after.now c.follow-entries.ensures (is_same _ _ _ c.eq.ensures)
-    ∙ rw (c.tag.ensures, c.number-2.ensures, c.number.ensures, c.copy-2.ensures, c.copy.ensures, p.state, p.image, p.before, p.known, p.after, p.next, c.number-count.ensures)
+    ∙ rw (c.tag.ensures, c.number-2.ensures, c.number.ensures, c.copy.ensures, c.over_zeros-state.ensures, p.state, p.image, p.before, p.known, p.after, p.next, c.number-count.ensures)
