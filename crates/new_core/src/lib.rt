@@ -36,12 +36,9 @@ impl Places<'_> {
     fn search(&self, a: SourcePc) -> Option<TargetPc>
         ensures { sought_of result ≡ seek (rows_in self.now.table.now) a.0 }
     {
-        for i in 0..self.table.len() / 16 {
-            let at = 16 * i;
-            if numbers::read_number(self.table, at) == a.0
-                && numbers::read_number(self.table, at + 8) == 0
-            {
-                return Some(TargetPc(numbers::read_number(self.table, at + 12)));
+        for row in self.table.chunks_exact(16) {
+            if numbers::read_number(row, 0) == a.0 && numbers::read_number(row, 8) == 0 {
+                return Some(TargetPc(numbers::read_number(row, 12)));
             }
         }
         None

@@ -24,7 +24,7 @@ pub struct OldControl {
     pub flags: Flags,
     pub pc: SourcePc,
     pub npc: SourcePc,
-    // set where it is not 0: a bool among numbers would be packed and unpacked at each step
+    // set where it is not 0: as a bool (tried), it is packed and unpacked at each step, which then takes half as many instructions again
     pub annul: u32,
     pub end: Option<End>,
 }
