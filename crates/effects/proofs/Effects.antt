@@ -1,7 +1,8 @@
 -- Laws of effects: the words that are not done here.
 use Rattle.machine.specs.declared.End.{End}
 use Rattle.numbers.proofs.Choice.{either}
-use Rattle.numbers.specs.Number.{minus}
+use Rattle.std.specs.Prelude.{nat_lt}
+use Rattle.numbers.specs.Number.{minus, signed}
 use Rattle.numbers.specs.Choice.{pick}
 use Rattle.words.specs.declared.Width.{Width}
 use Rattle.words.specs.declared.Operand.{Operand}
@@ -27,7 +28,7 @@ use Rattle.words.specs.contracts.Instruction.{the_type as instruction}
 use types.Run.{OneOf, miss}
 use mathlib.Core.List.{List, [], ◌∷◌}
 use mathlib.Core.Path.{◌≡◌, refl}
-use Prim.Native.Nat.{ℕ, ◌+◌, ◌-◌, ◌%◌}
+use Prim.Native.Nat.{ℕ, ◌+◌, ◌-◌, ◌%◌, ◌^◌}
 
 -- the numbers are those of the variants, in the order of the enum
 abbrev transfers : List ℕ
@@ -98,6 +99,11 @@ effects_end db (Shift o rd rs1 x) m = tt
 effects_end db (Rdy rd) m = tt
 effects_end db (Wry s) m = tt
 effects_end db (Window o rd rs1 x) m = within_ends (with_registers m) _ (window_ends o rd (address_of m.registers rs1 x) m.registers)
+
+-- a word has no sign to extend
+pub whole_word : (v : ℕ) → signed 32 v ≡ v
+unfolding signed
+whole_word v = either (λ x. x ≡ v) (nat_lt v (2 ^ 31)) v (v + 0) refl (omega arith)
 
 -- the parts of equal states
 same_ending : {S : Type 0} {x y : S} {d e : Ending} → state x d ≡ state y e → d ≡ e
