@@ -56,11 +56,11 @@ is_clear x e = rw e
 -- a branch: its condition holds, fails
 module _ (m : Machine) (npc t : ℕ) (annul holds always : Bool) where
   pub branch_taken : (k : ℕ) (b : Bool) → holds ≡ true → b ≡ annul && always → k ≡ bit_of b
-      → live (old m npc t (is_set k)) ≡ live (branches holds always annul m npc t)
+      → old m npc t (is_set k) ≡ branches holds always annul m npc t
   unfolding branches
   branch_taken k b h e n = rw (h, n, annul_back b, e)
 
-  pub branch_fails : (k n : ℕ) → holds ≡ false → k ≡ bit_of annul → n ≡ plus npc 4 → live (old m npc n (is_set k)) ≡ live (branches holds always annul m npc t)
+  pub branch_fails : (k n : ℕ) → holds ≡ false → k ≡ bit_of annul → n ≡ plus npc 4 → old m npc n (is_set k) ≡ branches holds always annul m npc t
   unfolding branches
   branch_fails k n h b e = rw (h, b, annul_back annul, e)
 

@@ -4,7 +4,7 @@
 ghost use Rattle.std.specs.Prelude.{◌≡◌, ℕ, ◌%◌, List, eqb};
 ghost use Rattle.numbers.specs.Choice.{pick};
 ghost use Rattle.words.specs.Conditions.{holds_of};
-ghost use Rattle.machine.specs.Ends.{ending, halt, live, settle};
+ghost use Rattle.machine.specs.Ends.{answered, ending, halt, settle};
 ghost use Rattle.machine.specs.Registers.{address_of};
 ghost use Rattle.effects.specs.Effect.{machine};
 ghost use Rattle.model.specs.Run.{run, zeroed, data_of, beyond, lent};
@@ -17,8 +17,8 @@ use effects::effect::{holds, perform};
 use machine::registers::{File, address, put};
 use machine::{End, SourcePc};
 use model::target;
-use states::OldControl;
 use states::program::Program;
+use states::{OldControl, Standing};
 use words::{Instruction, Operand};
 
 // The source program: its bytes, and the address of the first.
@@ -42,7 +42,7 @@ impl Image<'_> {
 }
 
 fn branch(c: OldControl, cond: u32, annul: bool, disp: u32) -> OldControl
-    ensures { (rs a : List ℕ) → old_state rs result a ≡ live (branches (holds_of cond c.flags.nzvc) (eqb cond 8) annul (machine rs c.flags.nzvc a) c.npc.0 (target c.pc.0 disp)) }
+    ensures { (rs a : List ℕ) → old_of rs result a ≡ branches (holds_of cond c.flags.nzvc) (eqb cond 8) annul (machine rs c.flags.nzvc a) c.npc.0 (target c.pc.0 disp) }
 {
     if holds(c.flags, cond) {
         return c.advance(target(c.pc, disp), machine::bit(annul && cond == 8));
@@ -51,48 +51,59 @@ fn branch(c: OldControl, cond: u32, annul: bool, disp: u32) -> OldControl
 }
 
 // The address is taken from the registers before rd is written.
-fn jump(c: OldControl, regs: &mut File, rd: u32, rs1: u32, x: Operand) -> OldControl
-    ensures { (a : List ℕ) → old_state regs.new result a ≡ settle (old_of regs.old c a) (jumps (address_of regs.old rs1 x) rd (machine regs.old c.flags.nzvc a) c.pc.0 c.npc.0) }
+fn jump(c: OldControl, regs: &mut File, rd: u32, rs1: u32, x: Operand) -> Result<OldControl, End>
+    ensures { (a : List ℕ) → answered (λ k. old_of regs.new k a) (old_of regs.new c a) result ≡ settle (old_of regs.old c a) (jumps (address_of regs.old rs1 x) rd (machine regs.old c.flags.nzvc a) c.pc.0 c.npc.0) }
 {
     let t = address(regs, rs1, x);
     if t % 4 == 0 {
         put(regs, rd, c.pc.0);
-        return c.advance(SourcePc(t), 0);
+        return Ok(c.advance(SourcePc(t), 0));
     }
-    c.stop(End::Misaligned(t))
+    Err(End::Misaligned(t))
 }
 
-fn execute(i: Instruction, db: u32, regs: &mut File, c: OldControl, area: &mut [u8]) -> OldControl
-    ensures { old_state regs.new result area.new ≡ settle (old_of regs.old c area.old) (executes db (transfer_of i) i (machine regs.old c.flags.nzvc area.old) c.pc.0 c.npc.0) }
+fn execute(
+    i: Instruction,
+    db: u32,
+    regs: &mut File,
+    c: OldControl,
+    area: &mut [u8],
+) -> Result<OldControl, End>
+    ensures { answered (λ k. old_of regs.new k area.new) (old_of regs.new c area.new) result ≡ settle (old_of regs.old c area.old) (executes db (transfer_of i) i (machine regs.old c.flags.nzvc area.old) c.pc.0 c.npc.0) }
 {
     match i {
-        Instruction::Illegal => c.stop(End::IllegalWord(c.pc)),
+        Instruction::Illegal => Err(End::IllegalWord(c.pc)),
         Instruction::Call(disp) => {
             put(regs, 15, c.pc.0);
-            c.advance(target(c.pc, disp), 0)
+            Ok(c.advance(target(c.pc, disp), 0))
         }
-        Instruction::Bicc(cond, annul, disp) => branch(c, cond, annul, disp),
+        Instruction::Bicc(cond, annul, disp) => Ok(branch(c, cond, annul, disp)),
         Instruction::Jmpl(rd, rs1, x) => jump(c, regs, rd, rs1, x),
-        // the next word, or the end
-        _ => match perform(i, db, regs, c.flags, area) {
-            Ok(flags) => OldControl { flags, ..c }.follow(),
-            Err(end) => c.stop(end),
-        },
+        _ => {
+            let flags = perform(i, db, regs, c.flags, area)?;
+            Ok(OldControl { flags, ..c }.follow())
+        }
     }
 }
 
 impl Image<'_> {
     // PC a multiple of 4, PC in the image, known word, its effect.
-    fn fetch(&self, db: u32, regs: &mut File, c: OldControl, area: &mut [u8]) -> OldControl
-        ensures { old_state regs.new result area.new ≡ settle (old_of regs.old c area.old) (pick (eqb (c.pc.0 % 4) 0) (fetches db (word_in self.now.bytes.now self.now.base c.pc.0) (machine regs.old c.flags.nzvc area.old) c.pc.0 c.npc.0) (halt (ending 4 c.pc.0))) }
+    fn fetch(
+        &self,
+        db: u32,
+        regs: &mut File,
+        c: OldControl,
+        area: &mut [u8],
+    ) -> Result<OldControl, End>
+        ensures { answered (λ k. old_of regs.new k area.new) (old_of regs.new c area.new) result ≡ settle (old_of regs.old c area.old) (pick (eqb (c.pc.0 % 4) 0) (fetches db (word_in self.now.bytes.now self.now.base c.pc.0) (machine regs.old c.flags.nzvc area.old) c.pc.0 c.npc.0) (halt (ending 4 c.pc.0))) }
     {
         if c.pc.0 % 4 == 0 {
             return match self.word(c.pc) {
                 Some(word) => execute(words::read_instruction(word), db, regs, c, area),
-                None => c.stop(End::Outside(c.pc)),
+                None => Err(End::Outside(c.pc)),
             };
         }
-        c.stop(End::Misaligned(c.pc.0))
+        Err(End::Misaligned(c.pc.0))
     }
 }
 
@@ -103,36 +114,36 @@ impl Program for Image<'_> {
 
     ghost whole = { old_of };
 
-    ghost ended = { λ c. c.end };
-
     ghost next = { λ i. old_next i.bytes.now i.base };
 
-    fn end(c: OldControl) -> Option<End>
-        ensures { result ≡ c.end }
-    {
-        c.end
-    }
-
     // An annulled word is passed unread.
-    fn step(&self, db: u32, regs: &mut File, c: OldControl, area: &mut [u8]) -> OldControl {
+    fn step(
+        &self,
+        db: u32,
+        regs: &mut File,
+        c: OldControl,
+        area: &mut [u8],
+    ) -> Result<OldControl, End> {
         if c.annul != 0 {
-            return c.follow();
+            return Ok(c.follow());
         }
         self.fetch(db, regs, c, area)
     }
 }
 
 // PC at the address, nPC 4 further, annul clear, not ended; flags and the lent file stay.
-pub fn begin(regs: &mut File, c: OldControl, pc: SourcePc) -> OldControl
+pub fn begin(regs: &mut File, c: OldControl, pc: SourcePc) -> Standing<OldControl>
     ensures { (a : List ℕ) → old_state regs.new result a ≡ old_begun pc.0 (machine (zeroed regs.old) c.flags.nzvc a) }
 {
     regs[0] = 0;
-    OldControl {
-        pc,
-        npc: pc.further(4),
-        annul: 0,
+    Standing {
+        control: OldControl {
+            pc,
+            npc: pc.further(4),
+            annul: 0,
+            ..c
+        },
         end: None,
-        ..c
     }
 }
 
@@ -141,11 +152,11 @@ pub fn run(
     image: &Image,
     db: u32,
     regs: &mut File,
-    c: OldControl,
+    s: Standing<OldControl>,
     area: &mut [u8],
     count: u16,
-) -> OldControl
-    ensures { lent (old_state regs.new result (data_of area.new)) (beyond area.new) ≡ lent (run (old_next image.now.bytes.now image.now.base db) count (old_state (zeroed regs.old) c (data_of area.old))) (beyond area.old) }
+) -> Standing<OldControl>
+    ensures { lent (old_state regs.new result (data_of area.new)) (beyond area.new) ≡ lent (run (old_next image.now.bytes.now image.now.base db) count (old_state (zeroed regs.old) s (data_of area.old))) (beyond area.old) }
 {
-    states::program::run(image, db, regs, c, area, count)
+    states::program::run(image, db, regs, s, area, count)
 }

@@ -11,26 +11,29 @@ ghost use Rattle.model.specs.StateBytes.{new_in, new_bytes, after, new_begins, n
 use machine::registers::{FILE, File};
 use machine::{Ended, SourcePc, TargetPc};
 use new_core::{Places, Translation};
-use states::{NEW_BEHIND, NEW_STATE, NewControl};
+use states::{NEW_BEHIND, NEW_STATE, NewControl, Standing};
 
 // The state that bytes stand for, its file lent.
-fn decode(state: &[u8; NEW_STATE], regs: &mut File) -> NewControl
+fn decode(state: &[u8; NEW_STATE], regs: &mut File) -> Standing<NewControl>
     ensures { (a : List ℕ) → new_state (zeroed regs.new) result a ≡ new_in state.now a }
 {
     states::file_in(state, NEW_BEHIND, regs);
-    NewControl {
-        flags: states::flags_in(state),
-        at: TargetPc(numbers::read_number(state, 132)),
-        held: SourcePc(numbers::read_number(state, 136)),
+    Standing {
+        control: NewControl {
+            flags: states::flags_in(state),
+            at: TargetPc(numbers::read_number(state, 132)),
+            held: SourcePc(numbers::read_number(state, 136)),
+        },
         end: states::end_in(state, 140),
     }
 }
 
 // The bytes of a state, the current window among the others, and how it ended.
-fn encode(regs: &mut File, c: NewControl, state: &mut [u8; NEW_STATE]) -> Ended
-    ensures { (ending result.end result.number ≡ standing_of c.end) × (regs.new ≡ laid regs.old) × ((a : List ℕ) → state.new ≡ new_bytes (new_state regs.old c a)) }
+fn encode(regs: &mut File, s: Standing<NewControl>, state: &mut [u8; NEW_STATE]) -> Ended
+    ensures { (ending result.end result.number ≡ standing_of s.end) × (regs.new ≡ laid regs.old) × ((a : List ℕ) → state.new ≡ new_bytes (new_state regs.old s a)) }
 {
-    let ended = Ended::from(c.end);
+    let c = s.control;
+    let ended = Ended::from(s.end);
     let rest = [c.flags.nzvc, c.at.0, c.held.0, ended.end, ended.number];
     states::put_state(state, regs, &rest);
     ended
@@ -53,7 +56,7 @@ pub fn pijorrel_new_begin(
         base,
         size,
     };
-    let k = new_core::begin(&places, &mut regs, c, SourcePc(a));
+    let k = new_core::begin(&places, &mut regs, c.control, SourcePc(a));
     encode(&mut regs, k, state)
 }
 

@@ -11,27 +11,30 @@ ghost use Rattle.model.specs.StateBytes.{old_in, old_bytes, after, old_begins, o
 use machine::registers::{FILE, File};
 use machine::{Ended, SourcePc};
 use old_core::Image;
-use states::{OLD_BEHIND, OLD_STATE, OldControl};
+use states::{OLD_BEHIND, OLD_STATE, OldControl, Standing};
 
 // The state that bytes stand for, its file lent.
-fn decode(state: &[u8; OLD_STATE], regs: &mut File) -> OldControl
+fn decode(state: &[u8; OLD_STATE], regs: &mut File) -> Standing<OldControl>
     ensures { (a : List ℕ) → old_state (zeroed regs.new) result a ≡ old_in state.now a }
 {
     states::file_in(state, OLD_BEHIND, regs);
-    OldControl {
-        flags: states::flags_in(state),
-        pc: SourcePc(numbers::read_number(state, 132)),
-        npc: SourcePc(numbers::read_number(state, 136)),
-        annul: numbers::read_number(state, 140),
+    Standing {
+        control: OldControl {
+            flags: states::flags_in(state),
+            pc: SourcePc(numbers::read_number(state, 132)),
+            npc: SourcePc(numbers::read_number(state, 136)),
+            annul: numbers::read_number(state, 140),
+        },
         end: states::end_in(state, 144),
     }
 }
 
 // The bytes of a state, the current window among the others, and how it ended.
-fn encode(regs: &mut File, c: OldControl, state: &mut [u8; OLD_STATE]) -> Ended
-    ensures { (ending result.end result.number ≡ standing_of c.end) × (regs.new ≡ laid regs.old) × ((a : List ℕ) → state.new ≡ old_bytes (old_state regs.old c a)) }
+fn encode(regs: &mut File, s: Standing<OldControl>, state: &mut [u8; OLD_STATE]) -> Ended
+    ensures { (ending result.end result.number ≡ standing_of s.end) × (regs.new ≡ laid regs.old) × ((a : List ℕ) → state.new ≡ old_bytes (old_state regs.old s a)) }
 {
-    let ended = Ended::from(c.end);
+    let c = s.control;
+    let ended = Ended::from(s.end);
     let rest = [
         c.flags.nzvc,
         c.pc.0,
@@ -50,7 +53,7 @@ pub fn pijorrel_old_begin(pc: u32, state: &mut [u8; OLD_STATE])
 {
     let mut regs = [0u32; FILE];
     let c = decode(state, &mut regs);
-    let k = old_core::begin(&mut regs, c, SourcePc(pc));
+    let k = old_core::begin(&mut regs, c.control, SourcePc(pc));
     let _r = encode(&mut regs, k, state);
 }
 

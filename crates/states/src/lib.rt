@@ -3,20 +3,28 @@
 
 ghost use Rattle.std.specs.Prelude.{◌≡◌, ℕ, List, ◌+◌, ◌*◌, ◌%◌, ◌-◌, ◌≤◌, ◌++◌, length, take, drop};
 ghost use Rattle.numbers.specs.Number.{number_at, bytes_of};
-ghost use Rattle.machine.specs.Ends.{ending, ending_from, ending_of, halt, live, settle, standing_of, state};
+ghost use Rattle.machine.specs.Ends.{ending, ending_from, ending_of, standing_of};
 ghost use Rattle.machine.specs.Registers.{file_size};
 ghost use Rattle.effects.specs.Effect.{machine};
 ghost use Rattle.model.specs.OldCore.{old, follows};
 ghost use Rattle.model.specs.NewCore.{new, following};
 ghost use Rattle.windows.specs.Windows.{laid, come_in};
 ghost use Rattle.model.specs.StateBytes.{is_set, file_in};
-ghost use Rattle.states.specs.OldState.{start_values, old_of, old_state};
-ghost use Rattle.states.specs.NewState.{new_start_values, new_of, new_state};
+ghost use Rattle.states.specs.OldState.{start_values, old_of};
+ghost use Rattle.states.specs.NewState.{new_start_values, new_of};
 
 pub mod program;
 
 use machine::registers::{FILE, File};
 use machine::{End, Ended, Flags, SourcePc, TargetPc};
+
+// A core's state but for its registers, with the end of its run where that has ended. A step is handed the control alone: so none is done on a state
+// that has ended, and no step carries an end.
+#[derive(Clone, Copy)]
+pub struct Standing<C> {
+    pub control: C,
+    pub end: Option<End>,
+}
 
 // The old core's state but for its registers, which are lent beside it.
 #[derive(Clone, Copy)]
@@ -24,41 +32,28 @@ pub struct OldControl {
     pub flags: Flags,
     pub pc: SourcePc,
     pub npc: SourcePc,
-    // set where it is not 0: a bool among numbers would be packed and unpacked at each step
+    // set where it is not 0: as a bool (tried), it is packed and unpacked at each step, which then takes half as many instructions again
     pub annul: u32,
-    pub end: Option<End>,
 }
 
-#[tactic(auto, unfolding(machine::specs::Ends::standing_of))]
 impl OldControl {
     // The run goes on: PC becomes nPC, and nPC the address given.
     pub fn advance(self, next: SourcePc, annul: u32) -> Self
-        ensures { (rs a : List ℕ) → old_state rs result a ≡ live (old (machine rs self.flags.nzvc a) self.npc.0 next.0 (is_set annul)) }
+        ensures { (rs a : List ℕ) → old_of rs result a ≡ old (machine rs self.flags.nzvc a) self.npc.0 next.0 (is_set annul) }
     {
         OldControl {
             pc: self.npc,
             npc: next,
             annul,
-            end: None,
             ..self
         }
     }
 
     // The run goes on with the word after nPC.
     pub fn follow(self) -> Self
-        ensures { (rs a : List ℕ) → old_state rs result a ≡ live (follows self.npc.0 (machine rs self.flags.nzvc a)) }
+        ensures { (rs a : List ℕ) → old_of rs result a ≡ follows self.npc.0 (machine rs self.flags.nzvc a) }
     {
         self.advance(self.npc.further(4), 0)
-    }
-
-    // The run ends, and nothing else changes.
-    pub fn stop(self, end: End) -> Self
-        ensures { (rs a : List ℕ) → old_state rs result a ≡ state (old_of rs self a) (ending_of end) }
-    {
-        OldControl {
-            end: Some(end),
-            ..self
-        }
     }
 }
 
@@ -66,7 +61,7 @@ impl OldControl {
 #[derive(Drop)]
 pub struct OldCore {
     pub registers: File,
-    pub control: OldControl,
+    pub standing: Standing<OldControl>,
 }
 
 #[tactic(auto, unfolding(crate::specs::OldState::start_values))]
@@ -77,11 +72,13 @@ impl OldCore {
     {
         OldCore {
             registers: [0; FILE],
-            control: OldControl {
-                flags: Flags::CLEAR,
-                pc: SourcePc(0),
-                npc: SourcePc(0),
-                annul: 0,
+            standing: Standing {
+                control: OldControl {
+                    flags: Flags::CLEAR,
+                    pc: SourcePc(0),
+                    npc: SourcePc(0),
+                    annul: 0,
+                },
                 end: None,
             },
         }
@@ -94,44 +91,29 @@ pub struct NewControl {
     pub flags: Flags,
     pub at: TargetPc,
     pub held: SourcePc,
-    pub end: Option<End>,
 }
 
-#[tactic(auto, unfolding(machine::specs::Ends::standing_of, machine::specs::Ends::ending_of, machine::specs::Ends::settle))]
+#[tactic(auto, unfolding(machine::specs::Ends::ending_of))]
 impl NewControl {
     // The run goes on at a record.
     pub fn go_to(self, to: TargetPc) -> Self
-        ensures { (rs a : List ℕ) → new_state rs result a ≡ live (new (machine rs self.flags.nzvc a) to.0 self.held.0) }
+        ensures { (rs a : List ℕ) → new_of rs result a ≡ new (machine rs self.flags.nzvc a) to.0 self.held.0 }
     {
-        NewControl {
-            at: to,
-            end: None,
-            ..self
-        }
+        NewControl { at: to, ..self }
     }
 
     // The run goes on at the next record.
     pub fn follow(self) -> Self
-        ensures { (rs a : List ℕ) → new_state rs result a ≡ live (following self.at.0 self.held.0 (machine rs self.flags.nzvc a)) }
+        ensures { (rs a : List ℕ) → new_of rs result a ≡ following self.at.0 self.held.0 (machine rs self.flags.nzvc a) }
     {
         self.go_to(TargetPc(numbers::add(self.at.0, 1)))
     }
 
-    // The run ends, and nothing else changes.
-    pub fn stop(self, end: End) -> Self
-        ensures { (rs a : List ℕ) → new_state rs result a ≡ state (new_of rs self a) (ending_of end) }
-    {
-        NewControl {
-            end: Some(end),
-            ..self
-        }
-    }
-
     // The record at hand is a bad one.
-    pub fn bad(self) -> Self
-        ensures { (rs a : List ℕ) → new_state rs result a ≡ settle (new_of rs self a) (halt (ending 7 self.at.0)) }
+    pub fn bad(self) -> End
+        ensures { ending_of result ≡ ending 7 self.at.0 }
     {
-        self.stop(End::BadRecord(self.at))
+        End::BadRecord(self.at)
     }
 }
 
@@ -139,7 +121,7 @@ impl NewControl {
 #[derive(Drop)]
 pub struct NewCore {
     pub registers: File,
-    pub control: NewControl,
+    pub standing: Standing<NewControl>,
 }
 
 #[tactic(auto, unfolding(crate::specs::NewState::new_start_values))]
@@ -150,10 +132,12 @@ impl NewCore {
     {
         NewCore {
             registers: [0; FILE],
-            control: NewControl {
-                flags: Flags::CLEAR,
-                at: TargetPc(0),
-                held: SourcePc(0),
+            standing: Standing {
+                control: NewControl {
+                    flags: Flags::CLEAR,
+                    at: TargetPc(0),
+                    held: SourcePc(0),
+                },
                 end: None,
             },
         }

@@ -1,9 +1,9 @@
 // Runs of either core, over what it runs.
-ghost use Rattle.std.specs.Prelude.{◌≡◌, ℕ, List, Option};
-ghost use Rattle.machine.specs.declared.End.{End};
-ghost use Rattle.machine.specs.Ends.{Next, left, settle};
+ghost use Rattle.std.specs.Prelude.{◌≡◌, ℕ, List};
+ghost use Rattle.machine.specs.Ends.{Next, answered, left, live, settle};
 ghost use Rattle.model.specs.Run.{run, zeroed, data_of, beyond, lent};
 
+use crate::Standing;
 use machine::End;
 use machine::registers::File;
 
@@ -16,49 +16,58 @@ pub trait Program {
 
     ghost whole: { List ℕ → Self.Control → List ℕ → Whole };
 
-    ghost ended: { Self.Control → Option End };
-
     ghost next: { Self → ℕ → Whole → Next Whole };
 
-    fn end(c: Self::Control) -> Option<End>
-        ensures { result ≡ ended c };
-
-    fn step(&self, db: u32, regs: &mut File, c: Self::Control, area: &mut [u8]) -> Self::Control
-        ensures { left (whole regs.new result area.new) (ended result) ≡ settle (whole regs.old c area.old) (next self.now db (whole regs.old c area.old)) };
+    fn step(
+        &self,
+        db: u32,
+        regs: &mut File,
+        c: Self::Control,
+        area: &mut [u8],
+    ) -> Result<Self::Control, End>
+        ensures { answered (λ k. whole regs.new k area.new) (whole regs.new c area.new) result ≡ settle (whole regs.old c area.old) (next self.now db (whole regs.old c area.old)) };
 }
 
-// Does count steps, or fewer where the run ends: a step on an ended state changes nothing.
+// Does count steps, or fewer where the run ends.
 fn steps<P: Program>(
     program: &P,
     db: u32,
     regs: &mut File,
-    mut c: P::Control,
+    mut control: P::Control,
     area: &mut [u8],
     count: u16,
-) -> P::Control
-    ensures { left (P.whole regs.new result area.new) (P.ended result) ≡ run (P.next program.now db) count (left (P.whole regs.old c area.old) (P.ended c)) }
+) -> Standing<P::Control>
+    ensures { left (P.whole regs.new result.control area.new) result.end ≡ run (P.next program.now db) count (live (P.whole regs.old control area.old)) }
 {
     for _ in 0..count {
-        if P::end(c).is_some() {
-            break;
+        match program.step(db, regs, control, area) {
+            Ok(next) => control = next,
+            Err(e) => {
+                return Standing {
+                    control,
+                    end: Some(e),
+                };
+            }
         }
-        c = program.step(db, regs, c, area);
     }
-    c
+    Standing { control, end: None }
 }
 
-// count steps, or fewer where the run ends. The file is lent, so that nothing copies it.
+// count steps, or fewer where the run ends; none where it has ended. The file is lent, so that nothing copies it.
 pub fn run<P: Program>(
     program: &P,
     db: u32,
     regs: &mut File,
-    c: P::Control,
+    s: Standing<P::Control>,
     area: &mut [u8],
     count: u16,
-) -> P::Control
-    ensures { lent (left (P.whole regs.new result (data_of area.new)) (P.ended result)) (beyond area.new) ≡ lent (run (P.next program.now db) count (left (P.whole (zeroed regs.old) c (data_of area.old)) (P.ended c))) (beyond area.old) }
+) -> Standing<P::Control>
+    ensures { lent (left (P.whole regs.new result.control (data_of area.new)) result.end) (beyond area.new) ≡ lent (run (P.next program.now db) count (left (P.whole (zeroed regs.old) s.control (data_of area.old)) s.end)) (beyond area.old) }
 {
     regs[0] = 0;
+    if s.end.is_some() {
+        return s;
+    }
     let n = effects::data_area::data_length(area.len());
-    steps(program, db, regs, c, &mut area[..n], count)
+    steps(program, db, regs, s.control, &mut area[..n], count)
 }

@@ -1,4 +1,4 @@
-use Rattle.machine.specs.Ends.{within}
+use Rattle.machine.specs.Ends.{answered, settle, within}
 use Rattle.effects.specs.Effect.{effect_of}
 use Rattle.model.specs.Places.{may_be_held}
 use Rattle.model.specs.OldCore.{transfer_of}
@@ -9,9 +9,9 @@ use borrow.Enum.Refused.{opened}
 use Rattle.new_core.proofs.do_word.Goals as goal
 
 pub returns-in-Illegal : goal.returns-in-Illegal
-unfolding fit transfer_of
-returns-in-Illegal c = let b = c.bad.ensures c.args.regs.now c.args.area.now in
-    elim c.in-Illegal.is [ inl e ↦ rw e b | inr r ↦ elim r [ inl (disp, e) ↦ rw e b | inr (rd, rs1, x, e) ↦ rw e b ] ]
+unfolding fit transfer_of answered settle
+returns-in-Illegal c = let b = c.bad.ensures in
+    elim c.in-Illegal.is [ inl e ↦ rw (e, b) | inr r ↦ elim r [ inl (disp, e) ↦ rw (e, b) | inr (rd, rs1, x, e) ↦ rw (e, b) ] ]
 
 pub returns-in-Bicc : goal.returns-in-Bicc
 unfolding fit transfer_of may_be_held effect_of within

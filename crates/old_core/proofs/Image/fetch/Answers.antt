@@ -1,4 +1,4 @@
-use Rattle.machine.specs.Ends.{ending_of, settle}
+use Rattle.machine.specs.Ends.{answered, ending_of, settle}
 use Rattle.model.specs.OldCore.{fetches}
 use Rattle.old_core.specs.Word.{word_of}
 use borrow.Author.Tests.{eq-eqb, ne_eqb}
@@ -9,9 +9,9 @@ unfolding fetches word_of
 returns-in-Some c = rw (eq-eqb _ _ c.if-c-eq0.true, ← c.word.ensures, c.in-Some.is, ← c.read_instruction.ensures) c.execute.ensures
 
 pub returns-in-None : goal.returns-in-None
-unfolding fetches word_of settle ending_of
-returns-in-None c = rw (eq-eqb _ _ c.if-c-eq0.true, ← c.word.ensures, c.in-None.is) (c.stop.ensures _ _)
+unfolding fetches word_of answered settle ending_of
+returns-in-None c = rw (eq-eqb _ _ c.if-c-eq0.true, ← c.word.ensures, c.in-None.is)
 
 pub returns : goal.returns
-unfolding settle ending_of
-returns c = rw (ne_eqb _ _ c.if-c-eq0.false) (c.stop-2.ensures _ _)
+unfolding answered settle ending_of
+returns c = rw (ne_eqb _ _ c.if-c-eq0.false)

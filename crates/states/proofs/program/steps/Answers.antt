@@ -1,21 +1,22 @@
 use native.Mathlib.Nat.{sub-zero}
 use native.Mathlib.Omega.{arith}
-use mathlib.Core.Path.{sym, ◌∙◌}
-use Rattle.model.proofs.Runs.{run_on, run_done}
-use Rattle.states.proofs.Ended.{goes_on, is_over}
+use mathlib.Core.Path.{◌∙◌}
+use Rattle.machine.specs.Ends.{answered, standing_of}
+use Rattle.model.proofs.Runs.{run_on, run_done, run_ended, step_going}
 use Rattle.states.proofs.program.steps.Goals as goal
 
 pub loop-init : goal.loop-init
 loop-init g c = rw sub-zero
 
 pub loop-preserved : goal.loop-preserved
-loop-preserved g c =
-    run_on _ _ _ _ _ _ (omega arith) c.loop.invariant
-    (c.step-c.ensures ∙ rw (← c.end.ensures) (goes_on _ _ _ (sym c.is_some.ensures ∙ c.if-is_some.false)))
+unfolding answered
+loop-preserved g c = run_on _ _ _ _ _ _ (omega arith) c.loop.invariant ((rw c.in-Ok.is at c.step.ensures) ∙ step_going _ _)
 
-pub returns-then-is_some : goal.returns-then-is_some
-returns-then-is_some g c =
-    is_over _ _ _ _ _ (rw (← c.end.ensures) (sym c.is_some.ensures ∙ c.if-is_some.true)) c.loop.invariant
+pub returns-in-Err : goal.returns-in-Err
+unfolding answered standing_of
+returns-in-Err g c =
+    run_ended _ _ _ _ _ (run_on _ _ _ _ _ _ (omega arith) c.loop.invariant ((rw c.in-Err.is at c.step.ensures) ∙ step_going _ _))
 
-pub returns-after-loop : goal.returns-after-loop
-returns-after-loop g c = run_done _ _ _ _ _ (omega arith) c.loop.invariant
+pub returns : goal.returns
+unfolding standing_of
+returns g c = run_done _ _ _ _ _ (omega arith) c.loop.invariant
