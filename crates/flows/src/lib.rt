@@ -71,14 +71,22 @@ fn wry_flow(word: u32) -> Flow
     Flow::Continues
 }
 
+// An arm for each op3, of which the compiler makes a table. Ranges for the arms that say the same were tried: they prove, but become compares in a row,
+// and the translator took 5 % more instructions a word, the writer 8 %.
 fn other_flow2(op3: u32, cond: u32, rd: u32, word: u32) -> Flow
     requires { (operand_strays op3 word ≡ false) × (op3 ≡ 40 → rdy_strays word ≡ false) × (op3 ≡ 48 → wry_strays word ≡ false) }
     ensures { (rs1 : ℕ) (x : Operand) → result ≡ flow_of (strictly word (find other_rows none2 op3 cond rd rs1 x)) }
 {
     match op3 {
-        37..=40 | 48 | 60 | 61 => Flow::Continues,
+        37 => Flow::Continues,
+        38 => Flow::Continues,
+        39 => Flow::Continues,
+        40 => Flow::Continues,
+        48 => Flow::Continues,
         56 => Flow::Jumps(rd),
         58 => trap_flow(cond, word),
+        60 => Flow::Continues,
+        61 => Flow::Continues,
         _ => Flow::Faults,
     }
 }
@@ -88,7 +96,30 @@ fn flow2(op3: u32, cond: u32, rd: u32, word: u32) -> Flow
     ensures { (rs1 : ℕ) (x : Operand) → result ≡ flow_of (strictly word (format2_of op3 cond rd rs1 x)) }
 {
     match op3 {
-        0..=8 | 10..=12 | 16..=24 | 26..=28 => Flow::Continues,
+        0 => Flow::Continues,
+        1 => Flow::Continues,
+        2 => Flow::Continues,
+        3 => Flow::Continues,
+        4 => Flow::Continues,
+        5 => Flow::Continues,
+        6 => Flow::Continues,
+        7 => Flow::Continues,
+        8 => Flow::Continues,
+        10 => Flow::Continues,
+        11 => Flow::Continues,
+        12 => Flow::Continues,
+        16 => Flow::Continues,
+        17 => Flow::Continues,
+        18 => Flow::Continues,
+        19 => Flow::Continues,
+        20 => Flow::Continues,
+        21 => Flow::Continues,
+        22 => Flow::Continues,
+        23 => Flow::Continues,
+        24 => Flow::Continues,
+        26 => Flow::Continues,
+        27 => Flow::Continues,
+        28 => Flow::Continues,
         _ => other_flow2(op3, cond, rd, word),
     }
 }
@@ -111,7 +142,14 @@ fn flow3(op3: u32) -> Flow
     ensures { (rd rs1 : ℕ) (x : Operand) → result ≡ flow_of (format3_of op3 rd rs1 x) }
 {
     match op3 {
-        0..=2 | 4..=6 | 9 | 10 => Flow::Continues,
+        0 => Flow::Continues,
+        1 => Flow::Continues,
+        2 => Flow::Continues,
+        4 => Flow::Continues,
+        5 => Flow::Continues,
+        6 => Flow::Continues,
+        9 => Flow::Continues,
+        10 => Flow::Continues,
         _ => Flow::Faults,
     }
 }
