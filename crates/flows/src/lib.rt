@@ -71,6 +71,8 @@ fn wry_flow(word: u32) -> Flow
     Flow::Continues
 }
 
+// An arm for each op3, of which the compiler makes a table. Ranges for the arms that say the same were tried: they prove, but become compares in a row,
+// and the translator took 5 % more instructions a word, the writer 8 %.
 fn other_flow2(op3: u32, cond: u32, rd: u32, word: u32) -> Flow
     requires { (operand_strays op3 word ≡ false) × (op3 ≡ 40 → rdy_strays word ≡ false) × (op3 ≡ 48 → wry_strays word ≡ false) }
     ensures { (rs1 : ℕ) (x : Operand) → result ≡ flow_of (strictly word (find other_rows none2 op3 cond rd rs1 x)) }

@@ -16,24 +16,6 @@ pub struct PijorrelWritten {
     pub value: u32,
 }
 
-// The six numbers of an instruction.
-#[derive(Clone, Copy)]
-pub struct Six {
-    pub form: u32,
-    pub annul: u32,
-    pub rd: u32,
-    pub rs1: u32,
-    pub mark: u32,
-    pub value: u32,
-}
-
-// A register's number in 32 bits, as all that are read have.
-fn low32(i: usize) -> u32
-    ensures { result ≡ i % 4294967296 }
-{
-    (i % 4294967296) as u32
-}
-
 // Any mark but 0 is that of a constant.
 fn operand_from(mark: u32, v: u32) -> Operand
     ensures { result ≡ operand_from mark v }
@@ -120,37 +102,25 @@ pub fn pijorrel_write(instruction: &[u8; 24]) -> PijorrelWritten
     PijorrelWritten::from(write_six(form, annul, rd, rs1, mark, v))
 }
 
-// A form without a second operand, and one with it.
-fn plain_six(form: u32, annul: u32, rd: u32, v: u32) -> Six
-    ensures { result.form ∷ result.annul ∷ result.rd ∷ result.rs1 ∷ result.mark ∷ result.value ∷ [] ≡ form ∷ annul ∷ rd ∷ 0 ∷ 0 ∷ v ∷ [] }
+// The six numbers of a form without a second operand, and of one with it.
+fn plain_six(form: u32, annul: u32, rd: u32, v: u32) -> [u32; 6]
+    ensures { result ≡ form ∷ annul ∷ rd ∷ 0 ∷ 0 ∷ v ∷ [] }
 {
-    Six {
-        form,
-        annul,
-        rd,
-        rs1: 0,
-        mark: 0,
-        value: v,
-    }
+    [form, annul, rd, 0, 0, v]
 }
 
 #[tactic(auto, unfolding(crate::specs::Forms::with_operand))]
-fn six_with(form: u32, rd: u32, rs1: u32, x: Operand) -> Six
-    ensures { result.form ∷ result.annul ∷ result.rd ∷ result.rs1 ∷ result.mark ∷ result.value ∷ [] ≡ with_operand form rd rs1 x }
+fn six_with(form: u32, rd: u32, rs1: u32, x: Operand) -> [u32; 6]
+    ensures { result ≡ with_operand form rd rs1 x }
 {
-    let (mark, value) = match x {
-        Operand::Register(i) => (0, low32(i)),
-        Operand::Constant(k) => (1, k),
-    };
-    Six {
-        rs1,
-        mark,
-        ..plain_six(form, 0, rd, value)
+    match x {
+        Operand::Register(i) => [form, 0, rd, rs1, 0, (i % (1 << 32)) as u32],
+        Operand::Constant(k) => [form, 0, rd, rs1, 1, k],
     }
 }
 
-fn six_of(i: Instruction) -> Six
-    ensures { result.form ∷ result.annul ∷ result.rd ∷ result.rs1 ∷ result.mark ∷ result.value ∷ [] ≡ six_of i }
+fn six_of(i: Instruction) -> [u32; 6]
+    ensures { result ≡ six_of i }
 {
     match i {
         Instruction::Illegal => plain_six(0, 0, 0, 0),
@@ -178,7 +148,6 @@ fn six_of(i: Instruction) -> Six
 pub fn pijorrel_read(word: u32, instruction: &mut [u8; 24])
     ensures { instruction.new ≡ reads word }
 {
-    let s = six_of(words::read_instruction(word));
-    let list = [s.form, s.annul, s.rd, s.rs1, s.mark, s.value];
+    let list = six_of(words::read_instruction(word));
     numbers::write_numbers(instruction, 0, &list);
 }

@@ -33,15 +33,15 @@ fn put_signed(word: u32, width: u32, v: u32) -> Result<u32, Unfit>
     Err(Unfit(width))
 }
 
-// A register's number; one that no register has stays such a one.
+// A register, its number behind clear bits.
 fn put_register(word: u32, i: usize) -> Result<u32, Unfit>
     ensures { result ≡ joined (Ok word) (plain 1 0 ∷ plain 8 0 ∷ plain 5 i ∷ []) }
 {
-    put_field(
-        put_field(put_field(word, 1, 0)?, 8, 0)?,
-        5,
-        i.min(32) as u32,
-    )
+    let clear = put_field(put_field(word, 1, 0)?, 8, 0)?;
+    if i < 32 {
+        return put_field(clear, 5, i as u32);
+    }
+    Err(Unfit(5))
 }
 
 // The second operand, its constant a signed one of 13 bits.
