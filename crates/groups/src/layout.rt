@@ -20,6 +20,7 @@ fn branch_size(cond: u32) -> usize
 {
     match cond {
         0 => 1,
+        // apart, since after `0 | 8` the last arm does not know that it is neither
         8 => 1,
         _ => 2,
     }
@@ -31,7 +32,9 @@ fn word_size(f: Flow, held: bool) -> usize
     ensures { (word p n : ℕ) → result ≡ size (pick held (held_group_of (transferred f) word p) (group_of (transferred f) word p n)) }
 {
     match f {
-        Flow::Faults | Flow::Traps => 1,
+        Flow::Faults => 1,
+        // apart, so that the edit `trap_counted_twice` can say it of this one alone
+        Flow::Traps => 1,
         Flow::Continues | Flow::Calls(_) | Flow::Jumps(_) => 2,
         Flow::Branches(cond, _, _) => if held { 2 } else { branch_size(cond) },
     }

@@ -38,8 +38,7 @@ impl Image<'_> {
 }
 
 // What the old core is about to do, at an address: with a known next address, which is 4 further for a plain place and any other for a
-// slot; or held, with a next address that is known only when it is run. No code makes one: the definitions and contracts speak of places, and
-// the translator has them as three numbers, a row's address, next and kind.
+// slot; or held, with a next address that is known only when it is run.
 #[derive(Clone, Copy)]
 pub enum Place {
     Pair(u32, u32),

@@ -194,6 +194,16 @@ module _ (x : Place) (t : List ℕ) (count : ℕ) where
         not_there t (j - 1) x (λ k b. rw q at (i.apart k (j - 1) b (omega arith))) in
         sym ((rw e at (back j c l)) ∙ rw m)
 
+    -- the same of the place whose number is one less
+    pub here_hit : (k : ℕ) → Seeking x t count (suc k) → same_place (place_in t k) x ≡ true → k ≡ number_of x (places_in t count)
+    here_hit k c e = let p : suc k - 1 ≡ k = omega arith in rw p at (seeking_hit (suc k) c (omega arith) (rw p e))
+
+    pub here_next : (k : ℕ) → Seeking x t count (suc k) → same_place (place_in t k) x ≡ false → Seeking x t count (get_or links k 0)
+    here_next k c e = let p : suc k - 1 ≡ k = omega arith in rw p at (seeking_next (suc k) c (omega arith) (rw p e))
+
+    pub here_less : (k : ℕ) → Seeking x t count (suc k) → get_or links k 0 < suc k
+    here_less k c = let p : suc k - 1 ≡ k = omega arith in rw p at (seeking_less (suc k) c (omega arith))
+
   pub seeking_end : (j : ℕ) → Seeking x t count j → j ≤ 0 → count ≡ number_of x (places_in t count)
   seeking_end j c l = let e : j ≡ 0 = omega arith in sym (c.1 ∙ rw e (low_none x t count))
 

@@ -1,5 +1,4 @@
 -- Laws of a table that is lent on.
-use Rattle.model.specs.declared.Place.{Place}
 use Rattle.places.proofs.Rows.{length_places}
 use Rattle.places.specs.declared.table.Table.{Table}
 use Rattle.places.specs.Lent.{listed, Kept}

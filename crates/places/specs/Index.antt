@@ -1,5 +1,5 @@
 -- The index of the place table: places with one hash form a chain, from the newest to the oldest.
-use Rattle.std.specs.Prelude.{ℕ, zero, suc, ◌+◌, ◌*◌, ◌/◌, ◌%◌, ◌≤◌, ◌<◌, false, List, ◌≡◌, length, get_or, eqb}
+use Rattle.std.specs.Prelude.{ℕ, zero, suc, ◌+◌, ◌*◌, ◌/◌, ◌%◌, ◌≤◌, ◌<◌, false, List, ◌≡◌, length, get_or, eqb, Option, Some, None}
 use Rattle.numbers.specs.Choice.{pick}
 use Rattle.model.specs.declared.Place.{Place}
 use Rattle.model.specs.Places.{place_at, next_of, same_place}
@@ -7,6 +7,11 @@ use Rattle.places.specs.Table.{place_in, ShowsIn}
 
 unfoldable pub hash : Place → ℕ
 hash x = (place_at x / 4 % 65536 + next_of x / 4 % 65536 * 37) % 8192
+
+-- a place as its chain has it: one more than its number, and 0 for none
+unfoldable pub link_of : Option ℕ → ℕ
+link_of None = 0
+link_of (Some i) = suc i
 
 -- one more than the number of the last place with hash h among the first n; 0 where there is none
 unfoldable pub last : List ℕ → ℕ → ℕ → ℕ

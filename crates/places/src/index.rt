@@ -1,11 +1,11 @@
 // The index of a place table: places with one hash form a chain, from the newest to the oldest.
 ghost use Rattle.std.specs.Prelude.{◌≡◌, ◌+◌, ◌<◌, get_or, set, replicate};
-ghost use Rattle.places.specs.Index.{hash};
+ghost use Rattle.places.specs.Index.{hash, link_of};
 
 use crate::table::{address_of, next_of};
 use model::Place;
 
-// How many places there are, the newest of each hash, and the one before each with its hash; one goes by its number and 1 more, 0 is none.
+// How many places there are, the newest of each hash, and the one before each with its hash.
 #[derive(Drop)]
 pub struct Index {
     pub count: usize,
@@ -18,6 +18,19 @@ fn hash(x: Place) -> usize
     ensures { result ≡ hash x }
 {
     ((address_of(x) / 4 % 65536 + next_of(x) / 4 % 65536 * 37) % 8192) as usize
+}
+
+// The place that stands in a chain. It is a number with 0 for none, since an `Option<u16>` takes twice the memory, of which a translation has
+// 34 KiB (include/pijorrel.h).
+#[inline(always)]
+#[tactic(auto, unfolding(crate::specs::Index::link_of))]
+fn linked(n: u16) -> Option<usize>
+    ensures { link_of result ≡ n }
+{
+    match n {
+        0 => None,
+        _ => Some(n as usize - 1),
+    }
 }
 
 impl Index {
@@ -37,19 +50,19 @@ impl Index {
 
     // The newest place with the hash of a place.
     #[inline(always)]
-    pub(crate) fn newest(&self, x: Place) -> usize
-        ensures { result ≡ get_or self.now.heads (hash x) 0 }
+    pub(crate) fn newest(&self, x: Place) -> Option<usize>
+        ensures { link_of result ≡ get_or self.now.heads (hash x) 0 }
     {
-        self.heads[hash(x)] as usize
+        linked(self.heads[hash(x)])
     }
 
     // The place before place i with its hash.
     #[inline(always)]
-    pub(crate) fn older(&self, i: usize) -> usize
+    pub(crate) fn older(&self, i: usize) -> Option<usize>
         requires { i < 8192 }
-        ensures { result ≡ get_or self.now.links i 0 }
+        ensures { link_of result ≡ get_or self.now.links i 0 }
     {
-        self.links[i] as usize
+        linked(self.links[i])
     }
 
     // The place that comes next goes to the front of its chain.

@@ -135,13 +135,12 @@ impl Table<'_> {
     pub fn find(&self, x: Place) -> Option<usize>
         ensures { result ≡ found x (listed self.now) }
     {
-        let mut j = self.index.newest(x);
-        while 0 < j {
-            let i = j - 1;
+        let mut next = self.index.newest(x);
+        while let Some(i) = next {
             if self.is_place(i, x) {
                 return Some(i);
             }
-            j = self.index.older(i);
+            next = self.index.older(i);
         }
         None
     }

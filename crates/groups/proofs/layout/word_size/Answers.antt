@@ -9,10 +9,11 @@ use Rattle.groups.proofs.layout.word_size.Goals as goal
 
 pub returns-in-Faults : goal.returns-in-Faults
 unfolding size held_group_of group_of transferred
-returns-in-Faults c = λ word p n. elim c.in-Faults.is [
-  | inl e ↦ rw e (either (λ (g : Group Place). 1 ≡ size g) c.args.held _ _ refl refl)
-  | inr e ↦ rw e (either (λ (g : Group Place). 1 ≡ size g) c.args.held _ _ refl refl)
-]
+returns-in-Faults c = λ word p n. rw c.in-Faults.is (either (λ (g : Group Place). 1 ≡ size g) c.args.held _ _ refl refl)
+
+pub returns-in-Traps : goal.returns-in-Traps
+unfolding size held_group_of group_of transferred
+returns-in-Traps c = λ word p n. rw c.in-Traps.is (either (λ (g : Group Place). 1 ≡ size g) c.args.held _ _ refl refl)
 
 pub returns-in-Continues : goal.returns-in-Continues
 unfolding size held_group_of group_of transferred
