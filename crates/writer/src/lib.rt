@@ -135,6 +135,8 @@ pub fn call_word(disp: u32) -> Result<u32, Unfit>
     put_signed(1, 30, disp)
 }
 
+// The op3 of each operation. An `impl From` for u32 would be the same match, under a name that does not say op3.
+
 fn plain_op3(o: Operation) -> u32
     ensures { (result ≡ arithmetic_op3 o false) × (result < 16) }
 {
