@@ -174,7 +174,7 @@ pub struct Translation<'a> {
 
 impl Translation<'_> {
     // Does the record that starts at a position. Of its numbers only those are read that its kind names, and as the kind says they become
-    // addresses or record numbers here.
+    // addresses or record numbers here. The kinds stay numbers: an enum of them would be made and matched in this one place.
     fn obey(
         &self,
         at: usize,
@@ -251,7 +251,8 @@ pub fn begin(places: &Places, regs: &mut File, c: NewControl, a: SourcePc) -> St
     }
 }
 
-// count records, or fewer where the run ends. The file is lent, so that nothing copies it.
+// count records, or fewer where the run ends. The file is lent, so that nothing copies it. It is the generic run, under the name that the pages
+// give the core's.
 pub fn run(
     translation: &Translation,
     db: u32,

@@ -147,7 +147,8 @@ pub fn begin(regs: &mut File, c: OldControl, pc: SourcePc) -> Standing<OldContro
     }
 }
 
-// count steps, or fewer where the run ends. The file is lent, so that nothing copies it.
+// count steps, or fewer where the run ends. The file is lent, so that nothing copies it. It is the generic run, under the name that the pages
+// give the core's.
 pub fn run(
     image: &Image,
     db: u32,

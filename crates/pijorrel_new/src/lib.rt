@@ -13,7 +13,7 @@ use machine::{Ended, SourcePc, TargetPc};
 use new_core::{Places, Translation};
 use states::{NEW_BEHIND, NEW_STATE, NewControl, Standing};
 
-// The state that bytes stand for, its file lent.
+// The state that bytes stand for, its file lent. What both cores' states share is read in `states`; these numbers are this core's.
 fn decode(state: &[u8; NEW_STATE], regs: &mut File) -> Standing<NewControl>
     ensures { (a : List ℕ) → new_state (zeroed regs.new) result a ≡ new_in state.now a }
 {

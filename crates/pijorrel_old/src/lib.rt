@@ -13,7 +13,7 @@ use machine::{Ended, SourcePc};
 use old_core::Image;
 use states::{OLD_BEHIND, OLD_STATE, OldControl, Standing};
 
-// The state that bytes stand for, its file lent.
+// The state that bytes stand for, its file lent. What both cores' states share is read in `states`; these numbers are this core's.
 fn decode(state: &[u8; OLD_STATE], regs: &mut File) -> Standing<OldControl>
     ensures { (a : List ℕ) → old_state (zeroed regs.new) result a ≡ old_in state.now a }
 {

@@ -144,7 +144,8 @@ impl NewCore {
     }
 }
 
-// The byte of each core's state from which on stands what the file has behind the registers, and how many bytes a state has.
+// The byte of each core's state from which on stands what the file has behind the registers, and how many bytes a state has. The C interface
+// names the lengths (include/pijorrel.h).
 pub const OLD_BEHIND: usize = 152;
 
 pub const OLD_STATE: usize = 672;
