@@ -101,21 +101,30 @@ fn load_from(
     regs: &mut File,
     area: &[u8],
     rd: u32,
-    t: u32,
+    rs1: u32,
+    x: Operand,
 ) -> Result<(), End>
-    ensures { done regs.new result ≡ settle regs.old (load_of w sign db area.now rd t regs.old) }
+    ensures { done regs.new result ≡ settle regs.old (load_of w sign db area.now rd (address_of regs.old rs1 x) regs.old) }
 {
-    let at = position(w, db, t, area.len())?;
+    let at = position(w, db, address(regs, rs1, x), area.len())?;
     put(regs, rd, loaded(w, sign, value_at(w, area, at)));
     Ok(())
 }
 
 #[inline(always)]
-fn store_to(w: Width, db: u32, v: u32, area: &mut [u8], t: u32) -> Result<(), End>
-    ensures { done area.new result ≡ settle area.old (store_of w db v t area.old) }
+fn store_to(
+    w: Width,
+    db: u32,
+    regs: &File,
+    area: &mut [u8],
+    rd: u32,
+    rs1: u32,
+    x: Operand,
+) -> Result<(), End>
+    ensures { done area.new result ≡ settle area.old (store_of w db (register_of regs.now rd) (address_of regs.now rs1 x) area.old) }
 {
-    let at = position(w, db, t, area.len())?;
-    put_value(w, area, at, v);
+    let at = position(w, db, address(regs, rs1, x), area.len())?;
+    put_value(w, area, at, reg(regs, rd));
     Ok(())
 }
 
@@ -133,51 +142,11 @@ pub fn load(
     ensures { done regs.new result ≡ settle regs.old (load_of (width_of o) (sign_of o) db area.now rd (address_of regs.old rs1 x) regs.old) }
 {
     match o {
-        LoadOperation::Ld => load_from(
-            Width::Word,
-            false,
-            db,
-            regs,
-            area,
-            rd,
-            address(regs, rs1, x),
-        ),
-        LoadOperation::Ldub => load_from(
-            Width::Byte,
-            false,
-            db,
-            regs,
-            area,
-            rd,
-            address(regs, rs1, x),
-        ),
-        LoadOperation::Lduh => load_from(
-            Width::Half,
-            false,
-            db,
-            regs,
-            area,
-            rd,
-            address(regs, rs1, x),
-        ),
-        LoadOperation::Ldsb => load_from(
-            Width::Byte,
-            true,
-            db,
-            regs,
-            area,
-            rd,
-            address(regs, rs1, x),
-        ),
-        LoadOperation::Ldsh => load_from(
-            Width::Half,
-            true,
-            db,
-            regs,
-            area,
-            rd,
-            address(regs, rs1, x),
-        ),
+        LoadOperation::Ld => load_from(Width::Word, false, db, regs, area, rd, rs1, x),
+        LoadOperation::Ldub => load_from(Width::Byte, false, db, regs, area, rd, rs1, x),
+        LoadOperation::Lduh => load_from(Width::Half, false, db, regs, area, rd, rs1, x),
+        LoadOperation::Ldsb => load_from(Width::Byte, true, db, regs, area, rd, rs1, x),
+        LoadOperation::Ldsh => load_from(Width::Half, true, db, regs, area, rd, rs1, x),
     }
 }
 
@@ -193,8 +162,8 @@ pub fn store(
     ensures { done area.new result ≡ settle area.old (store_of w db (register_of regs.now rd) (address_of regs.now rs1 x) area.old) }
 {
     match w {
-        Width::Byte => store_to(Width::Byte, db, reg(regs, rd), area, address(regs, rs1, x)),
-        Width::Half => store_to(Width::Half, db, reg(regs, rd), area, address(regs, rs1, x)),
-        Width::Word => store_to(Width::Word, db, reg(regs, rd), area, address(regs, rs1, x)),
+        Width::Byte => store_to(Width::Byte, db, regs, area, rd, rs1, x),
+        Width::Half => store_to(Width::Half, db, regs, area, rd, rs1, x),
+        Width::Word => store_to(Width::Word, db, regs, area, rd, rs1, x),
     }
 }

@@ -10,7 +10,7 @@ ghost use Rattle.places.specs.Table.{place_in};
 ghost use Rattle.places.specs.Lent.{listed};
 ghost use Rattle.groups.specs.Layout.{recorded, first_in, needed, Pushed, Puts, HasRoom};
 
-use machine::{SourcePc, TargetPc, further};
+use machine::{SourcePc, TargetPc};
 use model::{Image, Place, target};
 use places::control::untaken;
 use places::table::Table;
@@ -44,7 +44,7 @@ fn first_record(table: &Table<'_>, past: TargetPc, x: Place) -> TargetPc
 fn first_of_plain(table: &Table<'_>, past: TargetPc, p: SourcePc) -> TargetPc
     ensures { result.0 ≡ first_in table.now.places.now table.now.index.now.count past.0 (plain p.0) }
 {
-    first_record(table, past, Place::Pair(p.0, further(p, 4).0))
+    first_record(table, past, Place::Pair(p.0, p.further(4).0))
 }
 
 // A record's kind and the two numbers after it.

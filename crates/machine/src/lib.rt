@@ -1,9 +1,8 @@
 // What both cores share: the register file, flags, the two counters, and how a run ended.
 #![tactic(auto)]
 
-ghost use Rattle.std.specs.Prelude.{◌≡◌, ◌<◌};
+ghost use Rattle.std.specs.Prelude.{◌≡◌};
 ghost use Rattle.numbers.specs.Number.{plus};
-ghost use Rattle.words.specs.Conditions.{bit_of};
 ghost use Rattle.machine.specs.Ends.{ending, standing_of, ending_from};
 
 pub mod registers;
@@ -19,13 +18,6 @@ impl SourcePc {
     {
         SourcePc(numbers::add(self.0, bytes))
     }
-}
-
-// The same, under the name by which the crates above call it.
-pub fn further(p: SourcePc, bytes: u32) -> SourcePc
-    ensures { result.0 ≡ plus p.0 bytes }
-{
-    p.further(bytes)
 }
 
 // A record's number. It is never read as a source address.
@@ -109,12 +101,4 @@ impl From<Ended> for Option<End> {
             _ => None,
         }
     }
-}
-
-// A test as a number.
-#[tactic(auto, unfolding(words::specs::Conditions::bit_of))]
-pub fn bit(b: bool) -> u32
-    ensures { (result ≡ bit_of b) × (result < 2) }
-{
-    u32::from(b)
 }

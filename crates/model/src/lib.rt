@@ -5,14 +5,14 @@ ghost use Rattle.std.specs.Prelude.{◌≡◌, [], ◌∷◌};
 ghost use Rattle.model.specs.OldCore.{word_of, word_in, target};
 ghost use Rattle.model.specs.Translation.{refusal_numbers};
 
-use machine::{SourcePc, further};
+use machine::SourcePc;
 
 // Where a displacement, which counts words, leads from an address.
 #[tactic(auto, unfolding(numbers::specs::Number::plus, crate::specs::OldCore::target))]
 pub fn target(p: SourcePc, disp: u32) -> SourcePc
     ensures { result.0 ≡ target p.0 disp }
 {
-    further(p, disp << 2)
+    p.further(disp << 2)
 }
 
 // A source program: its bytes, and the address of the first.

@@ -20,13 +20,6 @@ pub fn subtract(a: u32, b: u32) -> u32
     a.wrapping_sub(b)
 }
 
-// A byte as a number.
-pub fn wide(x: u8) -> u32
-    ensures { (result ≡ x) × (result < 256) }
-{
-    x as u32
-}
-
 // A number of so many bits with its sign extended to 32. With a constant number of bits the compiler makes two shifts of it.
 #[inline(always)]
 pub fn signed(bits: u32, v: u32) -> u32

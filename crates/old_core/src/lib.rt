@@ -11,43 +11,22 @@ ghost use Rattle.model.specs.Run.{run, zeroed, data_of, beyond, lent};
 ghost use Rattle.model.specs.OldCore.{Old, word_in, transfer_of, target, follows, branches, jumps, executes, fetches, old_next, old_begun};
 ghost use Rattle.model.specs.StateBytes.{is_set};
 ghost use Rattle.states.specs.OldState.{old_of, old_state};
-ghost use Rattle.old_core.specs.Word.{word_of};
 
 use effects::effect::{holds, perform};
 use machine::registers::{File, address, put};
 use machine::{End, SourcePc};
-use model::target;
+use model::{Image, target};
 use states::program::Program;
 use states::{OldControl, Standing};
 use words::{Instruction, Operand};
-
-// The source program: its bytes, and the address of the first.
-#[derive(Clone, Copy)]
-pub struct Image<'a> {
-    pub bytes: &'a [u8],
-    pub base: u32,
-}
-
-impl Image<'_> {
-    // The word at an address that lies in the image.
-    fn word(&self, p: SourcePc) -> Option<u32>
-        ensures { word_of result ≡ word_in self.now.bytes.now self.now.base p.0 }
-    {
-        let at = numbers::subtract(p.0, self.base) as usize;
-        if at + 4 <= self.bytes.len() {
-            return Some(numbers::read_number(self.bytes, at));
-        }
-        None
-    }
-}
 
 fn branch(c: OldControl, cond: u32, annul: bool, disp: u32) -> OldControl
     ensures { (rs a : List ℕ) → old_of rs result a ≡ branches (holds_of cond c.flags.nzvc) (eqb cond 8) annul (machine rs c.flags.nzvc a) c.npc.0 (target c.pc.0 disp) }
 {
     if holds(c.flags, cond) {
-        return c.advance(target(c.pc, disp), machine::bit(annul && cond == 8));
+        return c.advance(target(c.pc, disp), u32::from(annul && cond == 8));
     }
-    c.advance(c.npc.further(4), machine::bit(annul))
+    c.advance(c.npc.further(4), u32::from(annul))
 }
 
 // The address is taken from the registers before rd is written.
@@ -86,35 +65,39 @@ fn execute(
     }
 }
 
-impl Image<'_> {
-    // PC a multiple of 4, PC in the image, known word, its effect.
-    fn fetch(
-        &self,
-        db: u32,
-        regs: &mut File,
-        c: OldControl,
-        area: &mut [u8],
-    ) -> Result<OldControl, End>
-        ensures { answered (λ k. old_of regs.new k area.new) (old_of regs.new c area.new) result ≡ settle (old_of regs.old c area.old) (pick (eqb (c.pc.0 % 4) 0) (fetches db (word_in self.now.bytes.now self.now.base c.pc.0) (machine regs.old c.flags.nzvc area.old) c.pc.0 c.npc.0) (halt (ending 4 c.pc.0))) }
-    {
-        if c.pc.0 % 4 == 0 {
-            return match self.word(c.pc) {
-                Some(word) => execute(words::read_instruction(word), db, regs, c, area),
-                None => Err(End::Outside(c.pc)),
-            };
-        }
-        Err(End::Misaligned(c.pc.0))
+// PC a multiple of 4, PC in the image, known word, its effect.
+fn fetch(
+    image: Image<'_>,
+    db: u32,
+    regs: &mut File,
+    c: OldControl,
+    area: &mut [u8],
+) -> Result<OldControl, End>
+    ensures { answered (λ k. old_of regs.new k area.new) (old_of regs.new c area.new) result ≡ settle (old_of regs.old c area.old) (pick (eqb (c.pc.0 % 4) 0) (fetches db (word_in image.entry.bytes.now image.entry.base c.pc.0) (machine regs.old c.flags.nzvc area.old) c.pc.0 c.npc.0) (halt (ending 4 c.pc.0))) }
+{
+    if c.pc.0 % 4 != 0 {
+        return Err(End::Misaligned(c.pc.0));
+    }
+    match image.word(c.pc) {
+        Some(word) => execute(words::read_instruction(word), db, regs, c, area),
+        None => Err(End::Outside(c.pc)),
     }
 }
 
-impl Program for Image<'_> {
+// What the old core runs.
+#[derive(Clone, Copy)]
+pub struct Source<'a> {
+    pub image: Image<'a>,
+}
+
+impl Program for Source<'_> {
     type Control = OldControl;
 
     ghost Whole = { Old };
 
     ghost whole = { old_of };
 
-    ghost next = { λ i. old_next i.bytes.now i.base };
+    ghost next = { λ s. old_next s.image.bytes.now s.image.base };
 
     // An annulled word is passed unread.
     fn step(
@@ -127,7 +110,7 @@ impl Program for Image<'_> {
         if c.annul != 0 {
             return Ok(c.follow());
         }
-        self.fetch(db, regs, c, area)
+        fetch(self.image, db, regs, c, area)
     }
 }
 
@@ -150,14 +133,14 @@ pub fn begin(regs: &mut File, c: OldControl, pc: SourcePc) -> Standing<OldContro
 // count steps, or fewer where the run ends. The file is lent, so that nothing copies it. It is the generic run, under the name that the pages
 // give the core's.
 pub fn run(
-    image: &Image,
+    image: Image<'_>,
     db: u32,
     regs: &mut File,
     s: Standing<OldControl>,
     area: &mut [u8],
     count: u16,
 ) -> Standing<OldControl>
-    ensures { lent (old_state regs.new result (data_of area.new)) (beyond area.new) ≡ lent (run (old_next image.now.bytes.now image.now.base db) count (old_state (zeroed regs.old) s (data_of area.old))) (beyond area.old) }
+    ensures { lent (old_state regs.new result (data_of area.new)) (beyond area.new) ≡ lent (run (old_next image.entry.bytes.now image.entry.base db) count (old_state (zeroed regs.old) s (data_of area.old))) (beyond area.old) }
 {
-    states::program::run(image, db, regs, s, area, count)
+    states::program::run(&Source { image }, db, regs, s, area, count)
 }

@@ -10,7 +10,7 @@ ghost use Rattle.model.specs.StateBytes.{old_in, old_bytes, after, old_begins, o
 
 use machine::registers::{FILE, File};
 use machine::{Ended, SourcePc};
-use old_core::Image;
+use model::Image;
 use states::{OLD_BEHIND, OLD_STATE, OldControl, Standing};
 
 // The state that bytes stand for, its file lent. What both cores' states share is read in `states`; these numbers are this core's.
@@ -39,7 +39,7 @@ fn encode(regs: &mut File, s: Standing<OldControl>, state: &mut [u8; OLD_STATE])
         c.flags.nzvc,
         c.pc.0,
         c.npc.0,
-        machine::bit(c.annul != 0),
+        u32::from(c.annul != 0),
         ended.end,
         ended.number,
     ];
@@ -70,6 +70,6 @@ pub fn pijorrel_old_run(
 {
     let mut regs = [0u32; FILE];
     let c = decode(state, &mut regs);
-    let k = old_core::run(&Image { bytes: image, base }, db, &mut regs, c, area, count);
+    let k = old_core::run(Image { bytes: image, base }, db, &mut regs, c, area, count);
     encode(&mut regs, k, state)
 }

@@ -5,7 +5,7 @@ ghost use Rattle.numbers.specs.Number.{plus};
 ghost use Rattle.model.specs.Places.{unimp_behind, may_be_held};
 ghost use Rattle.places.specs.Control.{transferred};
 
-use machine::{SourcePc, further};
+use machine::SourcePc;
 use model::Image;
 use words::Flow;
 
@@ -14,7 +14,7 @@ use words::Flow;
 pub fn unimp_behind(image: Image<'_>, p: SourcePc) -> bool
     ensures { result ≡ unimp_behind image.entry.bytes.now image.entry.base p.0 }
 {
-    image.word(further(p, 8)).is_some_and(words::is_unimp)
+    image.word(p.further(8)).is_some_and(words::is_unimp)
 }
 
 // Where a branch that is not taken goes on: past its delay slot, if that is annulled.
@@ -22,7 +22,7 @@ pub fn unimp_behind(image: Image<'_>, p: SourcePc) -> bool
 pub fn untaken(annul: bool, n: SourcePc) -> SourcePc
     ensures { result.0 ≡ pick annul (plus n.0 4) n.0 }
 {
-    if annul { further(n, 4) } else { n }
+    if annul { n.further(4) } else { n }
 }
 
 // Whether a word may stand held: no call, no jmpl, and of the branches one that is never taken and annuls nothing.

@@ -5,7 +5,7 @@ ghost use Rattle.model.specs.Places.{plain, which_of, bicc_names, return_names, 
 ghost use Rattle.places.specs.Control.{transferred};
 ghost use Rattle.walks.specs.Walk.{Grown};
 
-use machine::{SourcePc, further};
+use machine::SourcePc;
 use model::{Image, Place, Refusal, target};
 use places::control::{unimp_behind, untaken};
 use places::table::{Table, address_of};
@@ -20,6 +20,7 @@ pub enum Refused {
 
 impl From<Refused> for Refusal {
     ghost use Rattle.walks.specs.Walk.{refusal_of};
+
     ghost from_gives = { λ e r. r ≡ refusal_of e };
 
     #[tactic(auto, unfolding(crate::specs::Walk::refusal_of))]
@@ -50,7 +51,7 @@ fn add(table: &mut Table<'_>, x: Place) -> Result<(), Refused>
 pub fn add_plain(table: &mut Table<'_>, p: SourcePc) -> Result<(), Refused>
     ensures { Grown table.old (plain p.0 ∷ []) result table.new }
 {
-    add(table, Place::Pair(p.0, further(p, 4).0))
+    add(table, Place::Pair(p.0, p.further(4).0))
 }
 
 // Adds what a Bicc names, where it is not taken before where it is.
@@ -80,9 +81,9 @@ fn add_branch(
 fn add_returns(image: Image<'_>, table: &mut Table<'_>, p: SourcePc) -> Result<(), Refused>
     ensures { Grown table.old (return_names (unimp_behind image.entry.bytes.now image.entry.base p.0) p.0) result table.new }
 {
-    add_plain(table, further(p, 8))?;
+    add_plain(table, p.further(8))?;
     if unimp_behind(image, p) {
-        add_plain(table, further(p, 12))?;
+        add_plain(table, p.further(12))?;
     }
     Ok(())
 }

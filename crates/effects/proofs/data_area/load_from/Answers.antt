@@ -6,8 +6,8 @@ use Rattle.effects.proofs.data_area.load_from.Goals as goal
 
 pub returns-in_err-at : goal.returns-in_err-at
 unfolding answered load_of loaded_at
-returns-in_err-at c = passed_on _ _ _ _ c.from_residual.ensures.1 ∙ c.in_err-at.ensures.end _ _ _ refl
+returns-in_err-at c = rw (← c.address.ensures) (passed_on _ _ _ _ c.from_residual.ensures.1 ∙ c.in_err-at.ensures.end _ _ _ refl)
 
 pub returns : goal.returns
 unfolding answered load_of loaded_at
-returns c = rw (c.put.ensures, c.loaded.ensures, c.value_at.ensures.0, (c.in_ok-at.ensures.place _ refl).0) (c.in_ok-at.ensures.end _ _ _ refl)
+returns c = rw (← c.address.ensures, c.put.ensures, c.loaded.ensures, c.value_at.ensures.0, (c.in_ok-at.ensures.place _ refl).0) (c.in_ok-at.ensures.end _ _ _ refl)

@@ -1,7 +1,7 @@
 use Rattle.old_core.proofs.Words.{annulled, not_annulled, is_set_lem, is_clear}
 use mathlib.Core.Path.{sym, ap, ◌∙◌}
 use Rattle.machine.specs.Ends.{answered, live, settle}
-use Rattle.old_core.proofs.ImageProgram.step.Goals as goal
+use Rattle.old_core.proofs.SourceProgram.step.Goals as goal
 
 pub returns-then-c-ne0 : goal.returns-then-c-ne0
 unfolding answered
