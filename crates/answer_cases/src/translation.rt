@@ -14,7 +14,7 @@ const TABLE: usize = 131104;
 
 const LIST: usize = 196608;
 
-// The parts of a case, each as much of it as the file has, and where the next case starts.
+// The parts of a case, each as much of it as the file has, and where the next case starts. Each kind of case has a struct, as its parts differ.
 #[derive(Clone, Copy)]
 struct Parts<'a> {
     image: &'a [u8],

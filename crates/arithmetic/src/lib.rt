@@ -51,7 +51,8 @@ fn sra(a: u32, b: u32) -> u32
     }
 }
 
-// V8's V and C, in its steps and order, from r[rs1]<31>, operand2<31> and result<31>: of a sum, then of a difference.
+// V8's V and C, in its steps and order, from r[rs1]<31>, operand2<31> and result<31>: of a sum, then of a difference. Four functions, since V8
+// writes four lines and `FlagsExact` speaks of each.
 fn sum_overflow(rs1: bool, operand2: bool, res: bool) -> bool
     ensures { result ≡ sum_overflow rs1 operand2 res }
 {

@@ -108,7 +108,7 @@ pub fn load<R: Files>(rt: &R, path: &[u8], buffer: &mut [u8]) -> io::Result<usiz
     input::read_full(&mut file, buffer)
 }
 
-// The number at a position, or 0 where the file is shorter.
+// The number at a position, or 0 where the file is shorter. (A position beside the bytes, since `number_in` is asked past their end too.)
 #[tactic(auto, unfolding(crate::specs::Files::number_in))]
 pub fn number(bytes: &[u8], at: usize) -> u32
     ensures { result ≡ number_in bytes.now at }

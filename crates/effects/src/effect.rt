@@ -30,7 +30,8 @@ fn trap(f: Flags, regs: &File, cond: u32, rs1: u32, x: Operand) -> Result<(), En
     Ok(())
 }
 
-// What a word does that does not transfer control; the others do nothing here.
+// What a word does that does not transfer control; the others do nothing here. The data base stands beside the area: `effect_of` has it apart
+// from the machine, so that in one struct with the area each clause would take both out again.
 #[tactic(auto, using(crate::proofs::Effects::idle), unfolding(crate::specs::Effect::effect_of, machine::specs::Ends::answered, machine::specs::Ends::settle, machine::specs::Ends::ending_of))]
 pub fn perform(
     i: Instruction,

@@ -22,7 +22,7 @@ fn number(bytes: &[u8], at: usize) -> u64
     u64::from(numbers::read_number(bytes, at))
 }
 
-// Puts a line for each of the first places of a table.
+// Puts a line for each of the first places of a table. (The count stands beside the table, which may have more rows: `place_lines` counts them.)
 fn put_places(text: &mut Text, places: &[u8], count: usize)
     requires { (16 * count ≤ length places.now) × (text.old.len + 105 * count ≤ length text.old.out.now) }
     ensures { Put text.old (place_lines places.now count 0) (105 * count) text.new }

@@ -24,7 +24,7 @@ impl SourcePc {
 #[derive(Clone, Copy)]
 pub struct TargetPc(pub u32);
 
-// The flags N, Z, V and C as one number, 8N + 4Z + 2V + C.
+// The flags N, Z, V and C as one number, 8N + 4Z + 2V + C, as C has them in a state.
 #[derive(Clone, Copy)]
 pub struct Flags {
     pub nzvc: u32,
@@ -52,7 +52,7 @@ pub enum End {
     TooManyRestores(u32),
 }
 
-// An end's number, and the number beside it; both 0 of a run that is still going.
+// An end's number, and the number beside it; both 0 of a run that is still going. So C has them.
 #[repr(C)]
 #[derive(Clone, Copy)]
 pub struct Ended {

@@ -154,7 +154,7 @@ fn choose(cond: u32, to: TargetPc, c: NewControl) -> Result<NewControl, End>
     Ok(c.follow())
 }
 
-// Kind 7: end as first says, at address second.
+// Kind 7: end as first says, at address second. (first is a record's number, any one: the match is its conversion.)
 fn stop_as(first: u32, second: SourcePc, c: NewControl) -> End
     ensures { halt (ending_of result) ≡ stops first second.0 c.at.0 }
 {

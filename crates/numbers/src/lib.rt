@@ -30,7 +30,7 @@ pub fn signed(bits: u32, v: u32) -> u32
     subtract((v + half) % (half + half), half)
 }
 
-// The number whose four bytes start at a position.
+// The number whose four bytes start at a position, which goes beside the area, as `number_at` has it.
 #[tactic(auto, unfolding(crate::specs::Number::number_at))]
 pub fn read_number(bytes: &[u8], at: usize) -> u32
     requires { at + 4 ≤ length bytes.now }

@@ -6,7 +6,7 @@ ghost use Rattle.model.specs.Translation.{answer_numbers, back, returned, transl
 
 use model::Answer;
 
-// 01's number for an answer, and the values returned with it.
+// 01's number for an answer, and the values returned with it, as C has them.
 #[repr(C)]
 #[derive(Clone, Copy)]
 pub struct PijorrelAnswer {

@@ -8,7 +8,8 @@ ghost use Rattle.pijorrel_words.specs.Forms.{with_operand, six_of, operand_from,
 
 use words::{Instruction, Operand, Sources, Unfit};
 
-// 0 and the word, or 7 and the bits of the field.
+// 0 and the word, or 7 and the bits of the field, as C has them. An instruction's six numbers (form, annul, rd, rs1, mark, value) are C's too:
+// below they become types and come of them, any numbers, known or not.
 #[repr(C)]
 #[derive(Clone, Copy)]
 pub struct PijorrelWritten {

@@ -119,7 +119,7 @@ impl Table<'_> {
         numbers::write_number(self.places, 16 * i + 12, r);
     }
 
-    // Whether row i is a place.
+    // Whether row i is a place: its numbers are compared, so that no row is made a place.
     #[inline(always)]
     fn is_place(&self, i: usize, x: Place) -> bool
         requires { i < self.now.index.now.count }

@@ -14,7 +14,7 @@ const TAG: u32 = 0x4E455743;
 // Where a state has its end.
 const END: usize = 140;
 
-// The parts of a case, each as much of it as the file has, and where the next case starts.
+// The parts of a case, each as much of it as the file has, and where the next case starts. Each kind of case has a struct, as its parts differ.
 #[derive(Clone, Copy)]
 struct Parts<'a> {
     state: &'a [u8],

@@ -145,7 +145,7 @@ impl NewCore {
 }
 
 // The byte of each core's state from which on stands what the file has behind the registers, and how many bytes a state has. The C interface
-// names the lengths (include/pijorrel.h).
+// names the lengths (include/pijorrel.h), and the positions in these bytes are its own.
 pub const OLD_BEHIND: usize = 152;
 
 pub const OLD_STATE: usize = 672;

@@ -73,7 +73,8 @@ pub struct Sources {
 }
 
 // What a word reads as: illegal, or an instruction. Each instruction has one word, if its numbers fit their fields. Displacements
-// count words and are signed, extended to 32 bits.
+// count words and are signed, extended to 32 bits. Illegal is a variant and no None, and a cond or a register any number: `ReadsBack` and
+// `WritesAgain` speak of all of them. rd, rs1 and the second operand stand apart, as V8 names them: in a struct each use would take it apart.
 #[derive(Clone, Copy)]
 pub enum Instruction {
     Illegal,
@@ -103,7 +104,8 @@ pub enum Instruction {
     Window(WindowOperation, u32, u32, Operand),
 }
 
-// What an instruction does to control: all that the rules of places and records tell apart.
+// What an instruction does to control: all that the rules of places and records tell apart. An illegal word's is one of them and no None, as
+// `flow_of` has it.
 #[derive(Clone, Copy)]
 pub enum Flow {
     // an illegal word
@@ -256,6 +258,7 @@ pub fn trap_strays(word: u32) -> bool
 }
 
 // What each form makes of a word: its fields are cut and its unused bits tested here, by op3 and not before, so that no word pays for another.
+// A form is a line of its own, whose contract says what it makes; what they share stands in `unless_strays`.
 
 // What is made of rd, rs1 and the second operand, unless a bit is set that is unused where this is a register. A constant is told first, and only a
 // register's word is tested.
