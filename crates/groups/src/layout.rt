@@ -1,16 +1,16 @@
 // Where each place's group stands among the records.
-ghost use Rattle.std.specs.Prelude.{◌≡◌, Bool, ℕ};
+ghost use Rattle.std.specs.Prelude.{◌≡◌, Bool, ℕ, ◌*◌, ◌≤◌, ◌<◌, length};
 ghost use Rattle.numbers.specs.Choice.{pick};
 ghost use Rattle.model.specs.declared.Place.TheVariants.{Pair, Held};
 ghost use Rattle.model.specs.Places.{which_of};
 ghost use Rattle.model.specs.Records.{bicc_group, group_of, held_group_of, group, in_full};
 ghost use Rattle.places.specs.Control.{transferred};
-ghost use Rattle.places.specs.Lent.{listed, Kept};
+ghost use Rattle.places.specs.Table.{places_in, ShowsIn, SameRow};
 ghost use Rattle.groups.specs.Layout.{size, Laid};
 
 use machine::SourcePc;
 use model::Image;
-use places::table::Table;
+use places::table::{address, is_held};
 use words::Flow;
 
 // How many records a branch has: one where its condition is settled.
@@ -51,17 +51,17 @@ fn group_size(image: Image<'_>, p: SourcePc, held: bool) -> usize
     }
 }
 
-// Sets the first record of each place, in place order, and answers the records in all.
+// Sets the first record of each of so many rows, in place order, and answers the records in all. It asks for places, and for no index of them:
+// so it takes the bytes and a count, and no table.
 #[inline(always)]
-pub fn lay_out(image: Image<'_>, table: &mut Table<'_>) -> usize
-    ensures laid { Laid (in_full image.entry.bytes.now image.entry.base) (listed table.old) table.old.index.now.count table.new.places.now result }
-    ensures count { table.new.index.now.count ≡ table.old.index.now.count }
-    ensures kept { Kept table.old table.new }
+pub fn lay_out(image: Image<'_>, places: &mut [u8], count: usize) -> usize
+    requires { (16 * count ≤ length places.old) × (count ≤ 8192) × ((i : ℕ) → i < count → ShowsIn places.old i) }
+    ensures { Laid (in_full image.entry.bytes.now image.entry.base) (places_in places.old count) count places.new result × ((i : ℕ) → i < count → SameRow places.new places.old i) }
 {
     let mut n = 0;
-    for i in 0..table.len() {
-        let size = group_size(image, table.address(i), table.is_held(i));
-        table.set_first_record(i, n as u32);
+    for i in 0..count {
+        let size = group_size(image, address(places, i), is_held(places, i));
+        numbers::write_number(places, 16 * i + 12, n as u32);
         n += size;
     }
     n

@@ -14,6 +14,7 @@ pub struct Index {
 }
 
 #[inline(always)]
+#[tactic(auto, unfolding(crate::specs::Index::hash))]
 fn hash(x: Place) -> usize
     ensures { result ≡ hash x }
 {
@@ -67,7 +68,7 @@ impl Index {
 
     // The place that comes next goes to the front of its chain.
     #[inline(always)]
-    pub(crate) fn enter(&mut self, x: Place)
+    pub fn enter(&mut self, x: Place)
         requires { self.old.count < 8192 }
         ensures count { self.new.count ≡ self.old.count + 1 }
         ensures heads { self.new.heads ≡ set self.old.heads (hash x) (self.old.count + 1) }

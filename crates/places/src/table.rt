@@ -1,8 +1,9 @@
 // The place table: four numbers a row, big-endian, in bytes that the caller lends, with its index.
 ghost use Rattle.places.specs.Index.{Ready};
-ghost use Rattle.std.specs.Prelude.{◌≡◌, ◌+◌, ◌*◌, ◌≤◌, length};
-ghost use Rattle.places.specs.Table.{Narrow, put_place};
-ghost use Rattle.model.specs.Places.{place_at, next_of, kind_of};
+ghost use Rattle.std.specs.Prelude.{◌≡◌, ◌+◌, ◌*◌, ◌≤◌, length, eqb};
+ghost use Rattle.numbers.specs.Number.{number_at};
+ghost use Rattle.places.specs.Table.{Narrow, ShowsIn, place_in, put_place};
+ghost use Rattle.model.specs.Places.{place_at, next_of, kind_of, same_place};
 
 use crate::index::Index;
 use machine::SourcePc;
@@ -10,6 +11,7 @@ use model::Place;
 
 // The numbers of a place, as they stand in a row: address, next and kind.
 #[inline(always)]
+#[tactic(auto, unfolding(model::specs::Places::place_at))]
 pub fn address_of(x: Place) -> u32
     ensures { result ≡ place_at x }
 {
@@ -29,7 +31,8 @@ pub(crate) fn next_of(x: Place) -> u32
 }
 
 #[inline(always)]
-fn kind_of(x: Place) -> u32
+#[tactic(auto, unfolding(model::specs::Places::kind_of))]
+pub fn kind_of(x: Place) -> u32
     ensures { result ≡ kind_of x }
 {
     match x {
@@ -39,9 +42,47 @@ fn kind_of(x: Place) -> u32
     }
 }
 
+// The address of row i.
+#[inline(always)]
+pub fn address(places: &[u8], i: usize) -> SourcePc
+    requires { 16 * i + 16 ≤ length places.now }
+    ensures { result.0 ≡ number_at places.now (16 * i) }
+{
+    SourcePc(numbers::read_number(places, 16 * i))
+}
+
+#[inline(always)]
+pub fn next(places: &[u8], i: usize) -> SourcePc
+    requires { 16 * i + 16 ≤ length places.now }
+    ensures { result.0 ≡ number_at places.now (16 * i + 4) }
+{
+    SourcePc(numbers::read_number(places, 16 * i + 4))
+}
+
+#[inline(always)]
+pub fn is_held(places: &[u8], i: usize) -> bool
+    requires { 16 * i + 16 ≤ length places.now }
+    ensures { result ≡ eqb (number_at places.now (16 * i + 8)) 2 }
+{
+    numbers::read_number(places, 16 * i + 8) == 2
+}
+
+// Whether row i is a place: its numbers are compared, so that no row is made a place.
+#[inline(always)]
+#[tactic(auto, using(crate::proofs::Rows::other_address, crate::proofs::Rows::other_next, crate::proofs::Rows::by_kind))]
+pub fn is_place(places: &[u8], i: usize, x: Place) -> bool
+    requires { (16 * i + 16 ≤ length places.now) × ShowsIn places.now i }
+    ensures { result ≡ same_place (place_in places.now i) x }
+{
+    numbers::read_number(places, 16 * i) == address_of(x)
+        && numbers::read_number(places, 16 * i + 4) == next_of(x)
+        && numbers::read_number(places, 16 * i + 8) == kind_of(x)
+}
+
 // Makes row i a place. Its first record stays as it is.
 #[inline(always)]
-fn write_place(places: &mut [u8], i: usize, x: Place)
+#[tactic(auto, unfolding(crate::specs::Table::put_place))]
+pub fn write_place(places: &mut [u8], i: usize, x: Place)
     requires { 16 * i + 16 ≤ length places.old }
     ensures put { places.new ≡ put_place places.old i x }
     ensures narrow { Narrow x }
@@ -62,7 +103,7 @@ pub struct Table<'a> {
 
 impl Table<'_> {
     ghost use Rattle.std.specs.Prelude.{◌<◌, [], ◌∷◌, ◌++◌, false, eqb};
-    ghost use Rattle.numbers.specs.Number.{number_at, put_number};
+    ghost use Rattle.numbers.specs.Number.{number_at};
     ghost use Rattle.model.specs.Places.{same_place, member};
     ghost use Rattle.places.specs.Table.{place_in, found};
     ghost use Rattle.places.specs.Lent.{listed, Kept};
@@ -81,7 +122,7 @@ impl Table<'_> {
         requires { i < self.now.index.now.count }
         ensures { result.0 ≡ number_at self.now.places.now (16 * i) }
     {
-        SourcePc(numbers::read_number(self.places, 16 * i))
+        address(self.places, i)
     }
 
     #[inline(always)]
@@ -89,7 +130,7 @@ impl Table<'_> {
         requires { i < self.now.index.now.count }
         ensures { result.0 ≡ number_at self.now.places.now (16 * i + 4) }
     {
-        SourcePc(numbers::read_number(self.places, 16 * i + 4))
+        next(self.places, i)
     }
 
     #[inline(always)]
@@ -97,7 +138,7 @@ impl Table<'_> {
         requires { i < self.now.index.now.count }
         ensures { result ≡ eqb (number_at self.now.places.now (16 * i + 8)) 2 }
     {
-        numbers::read_number(self.places, 16 * i + 8) == 2
+        is_held(self.places, i)
     }
 
     #[inline(always)]
@@ -108,28 +149,6 @@ impl Table<'_> {
         numbers::read_number(self.places, 16 * i + 12)
     }
 
-    // Sets the first record of row i. The places stay as they are.
-    #[inline(always)]
-    pub fn set_first_record(&mut self, i: usize, r: u32)
-        requires { i < self.old.index.now.count }
-        ensures bytes { self.new.places.now ≡ put_number self.old.places.now (16 * i + 12) r }
-        ensures count { self.new.index.now.count ≡ self.old.index.now.count }
-        ensures kept { Kept self.old self.new }
-    {
-        numbers::write_number(self.places, 16 * i + 12, r);
-    }
-
-    // Whether row i is a place: its numbers are compared, so that no row is made a place.
-    #[inline(always)]
-    fn is_place(&self, i: usize, x: Place) -> bool
-        requires { i < self.now.index.now.count }
-        ensures { result ≡ same_place (place_in self.now.places.now i) x }
-    {
-        numbers::read_number(self.places, 16 * i) == address_of(x)
-            && numbers::read_number(self.places, 16 * i + 4) == next_of(x)
-            && numbers::read_number(self.places, 16 * i + 8) == kind_of(x)
-    }
-
     // The number of a place, if it is present. No two are the same, so the first met is it.
     #[inline(always)]
     pub fn find(&self, x: Place) -> Option<usize>
@@ -137,7 +156,7 @@ impl Table<'_> {
     {
         let mut next = self.index.newest(x);
         while let Some(i) = next {
-            if self.is_place(i, x) {
+            if is_place(self.places, i, x) {
                 return Some(i);
             }
             next = self.index.older(i);

@@ -4,8 +4,6 @@ use Rattle.numbers.specs.Number.{up_to, numbers_of, bytes_of, zero_from}
 use Rattle.model.specs.declared.Place.{Place}
 use Rattle.places.proofs.Rows.{length_places}
 use Rattle.places.specs.Table.{places_in}
-use Rattle.places.specs.declared.table.Table.{Table}
-use Rattle.places.specs.Lent.{listed}
 use Rattle.groups.proofs.Laying.{first_laid}
 use Rattle.groups.proofs.Putting.{records_same, records_length}
 use Rattle.groups.specs.Layout.{first_in, Laid}
@@ -20,7 +18,7 @@ use Prim.Native.Nat.{ℕ, ◌*◌, ◌/◌, ◌≤◌, ◌<◌}
 use Rattle.model.specs.Translation.{Answer, accepted, Handed, filled, refusal, acceptance, from_walk, translation}
 use Rattle.model.proofs.Accepted.{took}
 use Rattle.model.specs.Walk.{table}
-use Rattle.model.specs.Records.{Grouping, in_full, rows_of, records_of, records_from, records_numbers, first}
+use Rattle.model.specs.Records.{in_full, rows_of, records_of, records_from, records_numbers, first}
 use Rattle.std.specs.Prelude.{Ok, Err}
 use Rattle.model.specs.declared.Refusal.{Refusal}
 use Rattle.model.specs.declared.Refusal.TheVariants.{RecordsShort}
@@ -33,12 +31,6 @@ use Rattle.translator.specs.Handing.{places_counted, records_counted, handed, cl
 nothing_filled : (l : List ℕ) (n size : ℕ) → n ≡ 0 → filled (numbers_of l n) size ≡ replicate size 0
 unfolding filled numbers_of up_to bytes_of
 nothing_filled l n size e = rw (e, sub-zero size)
-
--- laying out leaves the places
-pub listed_laid : (t u : Table) {lay : Grouping} {r : ℕ} → Laid lay (listed t) t.index.now.count u.places.now r → u.index.now.count ≡ t.index.now.count
-    → listed u ≡ listed t
-unfolding listed
-listed_laid t u d e = rw e d.kept
 
 -- what is answered, with the buffers t and s
 module _ (pl rl : ℕ) (t s : List ℕ) (lt : length t ≡ pl) (ls : length s ≡ rl) where

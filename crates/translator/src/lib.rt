@@ -84,13 +84,14 @@ fn finish(image: Image<'_>, table: &mut Table<'_>, records: &mut [u8]) -> Answer
     ensures handed { cleared result table.new.places.now records.new ≡ from_walk image.entry.bytes.now image.entry.base (length table.old.places.now) (length records.old) (walk.table (listed table.old)) }
     ensures kept { Kept table.old table.new }
 {
-    let total = groups::layout::lay_out(image, table);
+    let count = table.len();
+    let total = groups::layout::lay_out(image, table.places, count);
     if records.len() / 12 < total {
         return Err(Refusal::RecordsShort(total as u32));
     }
     groups::records::put_groups(image, table, total, records);
     Ok(Counts {
-        places: table.len() as u32,
+        places: count as u32,
         records: total as u32,
     })
 }

@@ -10,7 +10,10 @@ loop-next-init c = rw c.newest-next.ensures (seeking_start _ _ _ _ _ c.args.self
 
 pub is_place-requires : goal.is_place-requires
 unfolding link_of
-is_place-requires c = let s = rw c.in-Some.is at c.loop-next.invariant in omega (arith, s.0)
+is_place-requires c =
+    let s = rw c.in-Some.is at c.loop-next.invariant in
+    let r = c.args.self.now.ready in
+    (omega (arith, s.0, r.within, r.fits), r.index.shows _ (omega (arith, s.0)))
 
 pub returns-then-is_place : goal.returns-then-is_place
 unfolding listed link_of
