@@ -25,6 +25,7 @@ fn complement(x: u32) -> u32
     4294967295 - x
 }
 
+// V8's three shifts, a line each, as `shift_of` has a clause for each.
 #[tactic(auto, unfolding(crate::specs::Arithmetic::shifted_left))]
 fn sll(a: u32, b: u32) -> u32
     ensures { result ≡ shifted_left a b }

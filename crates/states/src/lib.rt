@@ -66,7 +66,7 @@ pub struct OldCore {
 
 #[tactic(auto, unfolding(crate::specs::OldState::start_values))]
 impl OldCore {
-    // The start values: all registers, Y, nesting and windows 0, all flags clear.
+    // The start values: all registers, Y, nesting and windows 0, all flags clear. Each core has its own, as its counters differ.
     pub fn new() -> Self
         ensures { result ≡ start_values }
     {
