@@ -8,7 +8,7 @@ use Rattle.words.specs.declared.Flow.{Flow}
 use Rattle.words.specs.declared.Flow.TheVariants.{Faults, Continues, Traps, Calls, Branches, Jumps}
 use Rattle.model.specs.OldCore.{word_in, word_of, transfer_of, target}
 use Rattle.model.specs.declared.Place.TheVariants.{Pair, Held}
-use Rattle.model.specs.Places.{plain, which_of, never, always, depends}
+use Rattle.model.specs.Places.{plain, which_of, never, depends}
 use Rattle.model.specs.Records.{one, two, do_word, link, hold, go_held, go_if, go_to, stop, bicc_group, group_of, held_group_of, group_at, held_group_at, group}
 use Rattle.std.specs.Prelude.{Option, Some, None}
 use Rattle.places.specs.Control.{transferred}
@@ -42,14 +42,6 @@ module _ (cond : ℕ) (annul : Bool) (t n : ℕ) where
   depends_group h k =
       rw (which_depends h k)
       (by_annul (λ b. bicc_group depends cond b t n) (λ m. two (go_if cond (Pair n t)) (go_to (plain m))) n refl refl annul)
-
-  pub always_size : cond ≡ 8 → 1 ≡ size (bicc_group (which_of cond) cond annul t n)
-  unfolding bicc_group size
-  always_size e = rw (which_always e) (go annul)
-    where
-      go : (b : Bool) → 1 ≡ size (bicc_group always cond b t n)
-      go true = refl
-      go false = refl
 
 -- the group of a word, by what its flow is
 module _ (word p n : ℕ) {f : Flow} where

@@ -7,6 +7,7 @@ use Rattle.model.specs.Records.{Rec, do_word, link, hold, go_if, go_to, go_held,
 use Rattle.places.specs.Table.{places_in, number_of}
 use Rattle.groups.specs.declared.records.Record.{Record}
 use Rattle.groups.specs.declared.records.Record.TheVariants.{DoWord, Link, Hold, GoIf, GoTo, GoHeld, Outside, Illegal}
+use Rattle.groups.specs.declared.records.Firsts.{Firsts}
 use Rattle.groups.specs.declared.records.Records.{Records}
 
 -- a record of the code as the definitions have it
@@ -34,6 +35,10 @@ needed lay (y ∷ ys) = past (lay y ys) (needed lay ys)
 unfoldable pub first_in : List ℕ → ℕ → ℕ → Place → ℕ
 first_in bytes count all x =
     pick (ltb (number_of x (places_in bytes count)) count) (number_at bytes (16 * number_of x (places_in bytes count) + 12)) all
+
+-- the same, by the table and the number of all records together
+abbrev pub first_of : Firsts → Place → ℕ
+first_of f = first_in f.table.now.places.now f.table.now.index.now.count f.past.0
 
 -- a table with its first records set: the places as they were, all numbers, and the records in all
 pub record Laid (lay : Grouping) (ps : List Place) (count : ℕ) (bytes : List ℕ) (r : ℕ) : Type 0 where

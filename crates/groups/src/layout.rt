@@ -15,6 +15,7 @@ use words::Flow;
 
 // How many records a branch has: one where its condition is settled.
 #[inline(always)]
+#[tactic(auto, unfolding(crate::specs::Layout::size, model::specs::Records::bicc_group, model::specs::Places::which_of))]
 fn branch_size(cond: u32) -> usize
     ensures { (annul : Bool) (t n : ℕ) → result ≡ size (bicc_group (which_of cond) cond annul t n) }
 {

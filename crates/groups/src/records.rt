@@ -8,7 +8,7 @@ ghost use Rattle.model.specs.Records.{in_full, bicc_group, group_of, held_group_
 ghost use Rattle.places.specs.Control.{transferred};
 ghost use Rattle.places.specs.Table.{place_in};
 ghost use Rattle.places.specs.Lent.{listed};
-ghost use Rattle.groups.specs.Layout.{recorded, first_in, needed, Pushed, Puts, HasRoom};
+ghost use Rattle.groups.specs.Layout.{recorded, first_in, first_of, needed, Pushed, Puts, HasRoom};
 
 use machine::{SourcePc, TargetPc};
 use model::{Image, Place, target};
@@ -29,22 +29,30 @@ pub enum Record {
     Illegal(SourcePc),
 }
 
-// The first record of a place, as the table has it; the one past the last where the table has it not.
-#[inline(always)]
-fn first_record(table: &Table<'_>, past: TargetPc, x: Place) -> TargetPc
-    ensures { result.0 ≡ first_in table.now.places.now table.now.index.now.count past.0 x }
-{
-    match table.find(x) {
-        Some(i) => TargetPc(table.first_record(i)),
-        None => past,
-    }
+// Where the first record of each place stands: as the table has it, and past all records where the table has it not.
+#[derive(Clone, Copy)]
+struct Firsts<'a> {
+    table: &'a Table<'a>,
+    past: TargetPc,
 }
 
-#[inline(always)]
-fn first_of_plain(table: &Table<'_>, past: TargetPc, p: SourcePc) -> TargetPc
-    ensures { result.0 ≡ first_in table.now.places.now table.now.index.now.count past.0 (plain p.0) }
-{
-    first_record(table, past, Place::Pair(p.0, p.further(4).0))
+impl Firsts<'_> {
+    #[inline(always)]
+    fn of(self, x: Place) -> TargetPc
+        ensures { result.0 ≡ first_of self.entry x }
+    {
+        match self.table.find(x) {
+            Some(i) => TargetPc(self.table.first_record(i)),
+            None => self.past,
+        }
+    }
+
+    #[inline(always)]
+    fn of_plain(self, p: SourcePc) -> TargetPc
+        ensures { result.0 ≡ first_of self.entry (plain p.0) }
+    {
+        self.of(Place::Pair(p.0, p.further(4).0))
+    }
 }
 
 // A record's kind and the two numbers after it.
@@ -85,117 +93,90 @@ impl Records<'_> {
         numbers::write_number(self.bytes, at + 8, second);
         self.count += 1;
     }
-}
 
-// Puts the group of a Bicc.
-#[inline(always)]
-fn put_branch(
-    table: &Table<'_>,
-    past: TargetPc,
-    records: &mut Records<'_>,
-    cond: u32,
-    annul: bool,
-    t: SourcePc,
-    n: SourcePc,
-)
-    requires { HasRoom (bicc_group (which_of cond) cond annul t.0 n.0) records.old }
-    ensures { Puts (first_in table.now.places.now table.now.index.now.count past.0) (bicc_group (which_of cond) cond annul t.0 n.0) records.old records.new }
-{
-    match cond {
-        0 => records.push(Record::GoTo(first_of_plain(table, past, untaken(annul, n)))),
-        8 if annul => records.push(Record::GoTo(first_of_plain(table, past, t))),
-        8 => records.push(Record::GoTo(first_record(table, past, Place::Pair(n.0, t.0)))),
-        _ => {
-            let taken = first_record(table, past, Place::Pair(n.0, t.0));
-            let other = first_of_plain(table, past, untaken(annul, n));
-            records.push(Record::GoIf(cond, taken));
-            records.push(Record::GoTo(other));
+    // Puts the group of a Bicc.
+    #[inline(always)]
+    fn put_branch(&mut self, firsts: Firsts<'_>, cond: u32, annul: bool, t: SourcePc, n: SourcePc)
+        requires { HasRoom (bicc_group (which_of cond) cond annul t.0 n.0) self.old }
+        ensures { Puts (first_of firsts.entry) (bicc_group (which_of cond) cond annul t.0 n.0) self.old self.new }
+    {
+        match cond {
+            0 => self.push(Record::GoTo(firsts.of_plain(untaken(annul, n)))),
+            8 if annul => self.push(Record::GoTo(firsts.of_plain(t))),
+            8 => self.push(Record::GoTo(firsts.of(Place::Pair(n.0, t.0)))),
+            _ => {
+                let taken = firsts.of(Place::Pair(n.0, t.0));
+                let other = firsts.of_plain(untaken(annul, n));
+                self.push(Record::GoIf(cond, taken));
+                self.push(Record::GoTo(other));
+            }
         }
     }
-}
 
-// Puts the group of a word at (p, n).
-#[inline(always)]
-fn put_word(
-    table: &Table<'_>,
-    past: TargetPc,
-    records: &mut Records<'_>,
-    f: Flow,
-    word: u32,
-    p: SourcePc,
-    n: SourcePc,
-)
-    requires { HasRoom (group_of (transferred f) word p.0 n.0) records.old }
-    ensures { Puts (first_in table.now.places.now table.now.index.now.count past.0) (group_of (transferred f) word p.0 n.0) records.old records.new }
-{
-    match f {
-        Flow::Faults => records.push(Record::Illegal(p)),
-        Flow::Continues => {
-            records.push(Record::DoWord(word));
-            records.push(Record::GoTo(first_of_plain(table, past, n)));
-        }
-        Flow::Traps => records.push(Record::DoWord(word)),
-        Flow::Calls(disp) => {
-            records.push(Record::Link(p));
-            records.push(Record::GoTo(first_record(
-                table,
-                past,
-                Place::Pair(n.0, target(p, disp).0),
-            )));
-        }
-        Flow::Branches(cond, annul, disp) => put_branch(
-            table,
-            past,
-            records,
-            cond,
-            annul,
-            target(p, disp),
-            n,
-        ),
-        Flow::Jumps(_) => {
-            records.push(Record::Hold(word, p));
-            records.push(Record::GoTo(first_record(table, past, Place::Held(n.0))));
+    // Puts the group of a word at (p, n).
+    #[inline(always)]
+    fn put_word(&mut self, firsts: Firsts<'_>, f: Flow, word: u32, p: SourcePc, n: SourcePc)
+        requires { HasRoom (group_of (transferred f) word p.0 n.0) self.old }
+        ensures { Puts (first_of firsts.entry) (group_of (transferred f) word p.0 n.0) self.old self.new }
+    {
+        match f {
+            Flow::Faults => self.push(Record::Illegal(p)),
+            Flow::Continues => {
+                self.push(Record::DoWord(word));
+                self.push(Record::GoTo(firsts.of_plain(n)));
+            }
+            Flow::Traps => self.push(Record::DoWord(word)),
+            Flow::Calls(disp) => {
+                self.push(Record::Link(p));
+                self.push(Record::GoTo(firsts.of(Place::Pair(n.0, target(p, disp).0))));
+            }
+            Flow::Branches(cond, annul, disp) => self.put_branch(
+                firsts,
+                cond,
+                annul,
+                target(p, disp),
+                n,
+            ),
+            Flow::Jumps(_) => {
+                self.push(Record::Hold(word, p));
+                self.push(Record::GoTo(firsts.of(Place::Held(n.0))));
+            }
         }
     }
-}
 
-// Puts the group of a word held at p.
-#[inline(always)]
-fn put_held(records: &mut Records<'_>, f: Flow, word: u32, p: SourcePc)
-    requires { HasRoom (held_group_of (transferred f) word p.0) records.old }
-    ensures { (first : Place → ℕ) → Puts first (held_group_of (transferred f) word p.0) records.old records.new }
-{
-    match f {
-        Flow::Faults => records.push(Record::Illegal(p)),
-        Flow::Traps => records.push(Record::DoWord(word)),
-        _ => {
-            records.push(Record::DoWord(word));
-            records.push(Record::GoHeld);
+    // Puts the group of a word held at p.
+    #[inline(always)]
+    fn put_held(&mut self, f: Flow, word: u32, p: SourcePc)
+        requires { HasRoom (held_group_of (transferred f) word p.0) self.old }
+        ensures { (first : Place → ℕ) → Puts first (held_group_of (transferred f) word p.0) self.old self.new }
+    {
+        match f {
+            Flow::Faults => self.push(Record::Illegal(p)),
+            Flow::Traps => self.push(Record::DoWord(word)),
+            _ => {
+                self.push(Record::DoWord(word));
+                self.push(Record::GoHeld);
+            }
         }
     }
-}
 
-// Puts the group of place i.
-#[inline(always)]
-fn put_group(
-    image: Image<'_>,
-    table: &Table<'_>,
-    past: TargetPc,
-    records: &mut Records<'_>,
-    i: usize,
-)
-    requires { (i < table.now.index.now.count) × HasRoom (group image.bytes.now image.base (place_in table.now.places.now i)) records.old }
-    ensures { Puts (first_in table.now.places.now table.now.index.now.count past.0) (group image.entry.bytes.now image.entry.base (place_in table.now.places.now i)) records.old records.new }
-{
-    let p = table.address(i);
-    let Some(word) = image.word(p) else {
-        return records.push(Record::Outside(p));
-    };
-    let flow = flows::read_flow(word);
-    if table.is_held(i) {
-        put_held(records, flow, word, p);
-    } else {
-        put_word(table, past, records, flow, word, p, table.next(i));
+    // Puts the group of place i.
+    #[inline(always)]
+    fn put_group(&mut self, image: Image<'_>, firsts: Firsts<'_>, i: usize)
+        requires { (i < firsts.table.now.index.now.count) × HasRoom (group image.bytes.now image.base (place_in firsts.table.now.places.now i)) self.old }
+        ensures { Puts (first_of firsts.entry) (group image.entry.bytes.now image.entry.base (place_in firsts.entry.table.now.places.now i)) self.old self.new }
+    {
+        let table = firsts.table;
+        let p = table.address(i);
+        let Some(word) = image.word(p) else {
+            return self.push(Record::Outside(p));
+        };
+        let flow = flows::read_flow(word);
+        if table.is_held(i) {
+            self.put_held(flow, word, p);
+        } else {
+            self.put_word(firsts, flow, word, p, table.next(i));
+        }
     }
 }
 
@@ -205,9 +186,12 @@ pub fn put_groups(image: Image<'_>, table: &Table<'_>, total: usize, bytes: &mut
     requires { (total ≡ needed (in_full image.bytes.now image.base) (listed table.now)) × (12 * total ≤ length bytes.old) }
     ensures { numbers_of bytes.new (3 * total) ≡ records_numbers (records_from (in_full image.entry.bytes.now image.entry.base) (first_in table.now.places.now table.now.index.now.count total) (listed table.now)) }
 {
+    let firsts = Firsts {
+        table,
+        past: TargetPc(total as u32),
+    };
     let mut records = Records { bytes, count: 0 };
-    let past = TargetPc(total as u32);
     for i in 0..table.len() {
-        put_group(image, table, past, &mut records, i);
+        records.put_group(image, firsts, i);
     }
 }

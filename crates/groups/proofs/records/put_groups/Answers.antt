@@ -11,8 +11,8 @@ use Prim.Native.Nat.{◌≤◌, ◌<◌}
 use mathlib.Core.Path.{refl, sym, ◌∙◌}
 use Rattle.groups.proofs.records.put_groups.Goals as goal
 
-pub overflow_cast-past : goal.overflow_cast-past
-overflow_cast-past c =
+pub overflow_cast-firsts : goal.overflow_cast-firsts
+overflow_cast-firsts c =
     let t = c.args.table.now in
     omega (arith, c.requires.0, needed_le (in_full c.args.image.bytes.now c.args.image.base) (listed t), length_listed t, t.ready.within, t.ready.few)
 

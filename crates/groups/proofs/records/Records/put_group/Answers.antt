@@ -3,10 +3,10 @@ use Rattle.groups.specs.Layout.{recorded}
 use Rattle.groups.proofs.Grouping.{row_outside, row_held, row_pair}
 use Rattle.groups.proofs.Putting.{puts_one, room_one}
 use mathlib.Core.Path.{refl}
-use Rattle.groups.proofs.records.put_group.Goals as goal
+use Rattle.groups.proofs.records.Records.put_group.Goals as goal
 
 pub push-requires : goal.push-requires
-push-requires c = room_one c.args.records.now (row_outside _ _ _ _ c.address-p.ensures c.word.ensures c.in_default.is) c.requires.1
+push-requires c = room_one c.args.self.now (row_outside _ _ _ _ c.address-p.ensures c.word.ensures c.in_default.is) c.requires.1
 
 pub returns-in_default : goal.returns-in_default
 unfolding numbered recorded
