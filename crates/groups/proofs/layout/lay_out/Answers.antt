@@ -5,7 +5,7 @@ use Rattle.groups.proofs.Grouping.{row_size}
 use Rattle.groups.proofs.Laying.{lay_turn, lay_end, row_trans, size_bound}
 use native.Mathlib.Nat.{zero-add}
 use native.Mathlib.Omega.{arith}
-use mathlib.Core.Path.{refl, ◌∙◌}
+use mathlib.Core.Path.{refl}
 use Rattle.groups.proofs.layout.lay_out.Goals as goal
 
 pub loop-i-init : goal.loop-i-init
