@@ -48,6 +48,7 @@ pub fn write_number(bytes: &mut [u8], at: usize, v: u32)
 }
 
 // Fills a list with the first numbers of an area.
+#[tactic(auto, unfolding(crate::specs::Number::numbers_of, crate::specs::Number::up_to))]
 pub fn read_numbers(bytes: &[u8], list: &mut [u32])
     requires { 4 * length list.old ≤ length bytes.now }
     ensures { list.new ≡ numbers_of bytes.now (length list.old) }
@@ -68,6 +69,7 @@ pub fn write_numbers(bytes: &mut [u8], at: usize, list: &[u32])
 }
 
 // Sets the bytes from a position on to 0.
+#[tactic(auto, unfolding(crate::specs::Number::zero_from))]
 pub fn clear_from(bytes: &mut [u8], from: usize)
     requires { from ≤ length bytes.old }
     ensures { bytes.new ≡ zero_from from bytes.old }

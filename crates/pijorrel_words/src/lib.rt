@@ -18,6 +18,7 @@ pub struct PijorrelWritten {
 }
 
 // Any mark but 0 is that of a constant.
+#[tactic(auto, unfolding(crate::specs::Forms::operand_from))]
 fn operand_from(mark: u32, v: u32) -> Operand
     ensures { result ≡ operand_from mark v }
 {
@@ -28,6 +29,7 @@ fn operand_from(mark: u32, v: u32) -> Operand
 }
 
 // The word of a form of format 2. It is put together by its op3: an instruction between would take that apart first.
+#[tactic(auto, using(crate::proofs::Laws::form_2))]
 fn write2(op3: u32, rd: u32, rs1: u32, x: Operand) -> Result<u32, Unfit>
     ensures { result ≡ written_of (format2_of op3 rd rd rs1 x) }
 {
@@ -50,6 +52,7 @@ fn write2(op3: u32, rd: u32, rs1: u32, x: Operand) -> Result<u32, Unfit>
 }
 
 // The word of a form of format 2 or 3.
+#[tactic(auto, using(crate::proofs::Laws::form_3), unfolding(crate::specs::Forms::by_op, words::specs::Writer::written_of))]
 fn write_by_op(form: u32, rd: u32, rs1: u32, x: Operand) -> Result<u32, Unfit>
     ensures { result ≡ written_of (by_op form rd rs1 x) }
 {
@@ -91,6 +94,7 @@ impl From<Result<u32, Unfit>> for PijorrelWritten {
 }
 
 // The word of an instruction, or a refusal.
+#[tactic(auto, unfolding(crate::specs::Forms::writes))]
 pub fn pijorrel_write(instruction: &[u8; 24]) -> PijorrelWritten
     ensures { result.number ∷ result.value ∷ [] ≡ writes instruction.now }
 {
@@ -120,6 +124,7 @@ fn six_with(form: u32, rd: u32, rs1: u32, x: Operand) -> [u32; 6]
     }
 }
 
+#[tactic(auto, using(words::proofs::Conditions::one_bit), unfolding(crate::specs::Forms::six_of))]
 fn six_of(i: Instruction) -> [u32; 6]
     ensures { result ≡ six_of i }
 {
@@ -146,6 +151,7 @@ fn six_of(i: Instruction) -> [u32; 6]
 }
 
 // The six numbers of the instruction that a word reads as; six zeros where it is not known.
+#[tactic(auto, unfolding(crate::specs::Forms::reads))]
 pub fn pijorrel_read(word: u32, instruction: &mut [u8; 24])
     ensures { instruction.new ≡ reads word }
 {

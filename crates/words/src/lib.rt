@@ -129,6 +129,7 @@ pub struct Unfit(pub u32);
 
 // So many bits of a word, from the lowest of them.
 #[inline(always)]
+#[tactic(auto, using(crate::proofs::Reader::masked))]
 fn bits(word: u32, low: u32, width: u32) -> u32
     requires { (low < 32) × (width < 32) }
     ensures value { result ≡ bits word low width }
@@ -226,6 +227,7 @@ pub fn disp30(word: u32) -> u32
 
 // ---- the reader
 
+#[tactic(auto, unfolding(crate::specs::Reader::operand_of))]
 fn second_operand(word: u32) -> Operand
     ensures { result ≡ operand_of word }
 {
@@ -308,6 +310,7 @@ fn store(w: Width, word: u32) -> Instruction
     unless_strays(word, |rd, rs1, x| Instruction::Store(w, rd, rs1, x))
 }
 
+#[tactic(auto, unfolding(crate::specs::Reader::strictly, crate::specs::Reader::unused_set, crate::specs::Reader::set_from))]
 fn shift(o: ShiftOperation, word: u32) -> Instruction
     ensures { result ≡ strictly word (Shift o (bits word 25 5) (bits word 14 5) (operand_of word)) }
 {
@@ -324,6 +327,7 @@ fn window(o: WindowOperation, word: u32) -> Instruction
     unless_strays(word, |rd, rs1, x| Instruction::Window(o, rd, rs1, x))
 }
 
+#[tactic(auto, unfolding(crate::specs::Reader::strictly, crate::specs::Reader::unused_set))]
 fn trap(word: u32) -> Instruction
     ensures { result ≡ strictly word (Ticc (bits word 25 4) (bits word 14 5) (operand_of word)) }
 {
@@ -348,6 +352,7 @@ pub fn rdy_strays(word: u32) -> bool
     rs1(word) != 0 || low14(word) != 0
 }
 
+#[tactic(auto, unfolding(crate::specs::Reader::strictly, crate::specs::Reader::unused_set))]
 fn rdy(word: u32) -> Instruction
     ensures { result ≡ strictly word (Rdy (bits word 25 5)) }
 {
@@ -357,6 +362,7 @@ fn rdy(word: u32) -> Instruction
     Instruction::Rdy(rd(word))
 }
 
+#[tactic(auto, unfolding(crate::specs::Reader::strictly, crate::specs::Reader::unused_set, crate::specs::Reader::wry_strays))]
 fn wry(word: u32) -> Instruction
     ensures { result ≡ strictly word (Wry (sources (bits word 14 5) (operand_of word))) }
 {
@@ -370,6 +376,7 @@ fn wry(word: u32) -> Instruction
 }
 
 // Format 0, by op2: branches and sethi.
+#[tactic(auto, unfolding(crate::specs::Reader::format0_of))]
 fn format0(word: u32) -> Instruction
     ensures { result ≡ format0_of word }
 {
@@ -381,6 +388,7 @@ fn format0(word: u32) -> Instruction
 }
 
 // Format 2, by op3: shifts, Y, jmpl, Ticc and windows.
+#[tactic(auto, unfolding(crate::specs::Reader::strictly, crate::specs::Reader::unused_set))]
 fn other2(op3: u32, word: u32) -> Instruction
     ensures { result ≡ strictly word (find other_rows none2 op3 (bits word 25 4) (bits word 25 5) (bits word 14 5) (operand_of word)) }
 {
@@ -399,6 +407,7 @@ fn other2(op3: u32, word: u32) -> Instruction
 }
 
 // Format 2, by op3: arithmetic, and the others.
+#[tactic(auto, unfolding(crate::specs::Reader::format2_of))]
 fn format2(op3: u32, word: u32) -> Instruction
     ensures { result ≡ strictly word (format2_of op3 (bits word 25 4) (bits word 25 5) (bits word 14 5) (operand_of word)) }
 {
@@ -432,6 +441,7 @@ fn format2(op3: u32, word: u32) -> Instruction
 }
 
 // Format 3, by op3: loads and stores.
+#[tactic(auto, unfolding(crate::specs::Reader::format3_of, crate::specs::Reader::strictly, crate::specs::Reader::unused_set))]
 fn format3(op3: u32, word: u32) -> Instruction
     ensures { result ≡ strictly word (format3_of op3 (bits word 25 5) (bits word 14 5) (operand_of word)) }
 {
@@ -461,6 +471,7 @@ pub fn read_instruction(word: u32) -> Instruction
 }
 
 // The same, for a jmpl alone. Where only a jmpl will do, this is quicker, and the whole reader keeps its one caller.
+#[tactic(auto, using(crate::proofs::Jmpl::jmpl_read, crate::proofs::Jmpl::no_jmpl_op, crate::proofs::Jmpl::no_jmpl_op3))]
 pub fn read_jmpl(word: u32) -> Instruction
     ensures { result ≡ as_jmpl (instruction_of word) }
 {

@@ -11,6 +11,7 @@ use words::{
 };
 
 // The bits so far with a field of so many bits behind them.
+#[tactic(auto, using(crate::proofs::Fields::put_fits))]
 fn put_field(word: u32, width: u32, v: u32) -> Result<u32, Unfit>
     requires { width < 32 }
     ensures { result ≡ behind (Ok word) (plain width v) }
@@ -137,6 +138,7 @@ pub fn call_word(disp: u32) -> Result<u32, Unfit>
 
 // The op3 of each operation. An `impl From` for u32 would be the same match, under a name that does not say op3.
 
+#[tactic(auto, unfolding(words::specs::Writer::arithmetic_op3))]
 fn plain_op3(o: Operation) -> u32
     ensures { (result ≡ arithmetic_op3 o false) × (result < 16) }
 {
@@ -157,6 +159,7 @@ fn plain_op3(o: Operation) -> u32
 }
 
 // The flag form has bit 4 of op3 set.
+#[tactic(auto, using(crate::proofs::Fields::flag_form))]
 pub fn arithmetic_op3(o: Operation, cc: bool) -> u32
     ensures { (result ≡ arithmetic_op3 o cc) × (result < 64) }
 {
@@ -167,6 +170,7 @@ pub fn arithmetic_op3(o: Operation, cc: bool) -> u32
     k
 }
 
+#[tactic(auto, unfolding(words::specs::Writer::shift_op3))]
 pub fn shift_op3(o: ShiftOperation) -> u32
     ensures { (result ≡ shift_op3 o) × (result < 64) }
 {
@@ -177,6 +181,7 @@ pub fn shift_op3(o: ShiftOperation) -> u32
     }
 }
 
+#[tactic(auto, unfolding(words::specs::Writer::window_op3))]
 pub fn window_op3(o: WindowOperation) -> u32
     ensures { (result ≡ window_op3 o) × (result < 64) }
 {
@@ -186,6 +191,7 @@ pub fn window_op3(o: WindowOperation) -> u32
     }
 }
 
+#[tactic(auto, unfolding(words::specs::Writer::load_op3))]
 pub fn load_op3(o: LoadOperation) -> u32
     ensures { (result ≡ load_op3 o) × (result < 64) }
 {
@@ -198,6 +204,7 @@ pub fn load_op3(o: LoadOperation) -> u32
     }
 }
 
+#[tactic(auto, unfolding(words::specs::Writer::store_op3))]
 pub fn store_op3(w: Width) -> u32
     ensures { (result ≡ store_op3 w) × (result < 64) }
 {
@@ -209,6 +216,7 @@ pub fn store_op3(w: Width) -> u32
 }
 
 // The word of an instruction, unused bits 0. What is no instruction is refused with 0 bits.
+#[tactic(auto, unfolding(words::specs::Writer::written_of))]
 pub fn write_instruction(i: Instruction) -> Result<u32, Unfit>
     ensures { result ≡ written_of i }
 {
