@@ -94,6 +94,7 @@ fn position(w: Width, db: u32, t: u32, n: usize) -> Result<usize, End>
 }
 
 #[inline(always)]
+#[tactic(auto, unfolding(machine::specs::Ends::answered, crate::specs::DataArea::load_of, crate::specs::DataArea::loaded_at))]
 fn load_from(
     w: Width,
     sign: bool,
@@ -112,6 +113,7 @@ fn load_from(
 }
 
 #[inline(always)]
+#[tactic(auto, unfolding(machine::specs::Ends::answered, crate::specs::DataArea::store_of))]
 fn store_to(
     w: Width,
     db: u32,

@@ -45,6 +45,7 @@ impl Places<'_> {
     }
 
     // Whether an address lies in the image.
+    #[tactic(auto, unfolding(model::specs::OldCore::in_image))]
     fn in_image(&self, a: SourcePc) -> bool
         ensures { result ≡ in_image self.now.base self.now.size a.0 }
     {
@@ -52,6 +53,7 @@ impl Places<'_> {
     }
 
     // How a run ends at an address that has no plain place.
+    #[tactic(auto, unfolding(model::specs::NewCore::lost, machine::specs::Ends::ending_of))]
     fn lost(&self, a: SourcePc) -> End
         ensures { ending_of result ≡ lost (in_image self.now.base self.now.size a.0) a.0 }
     {
@@ -155,6 +157,7 @@ fn choose(cond: u32, to: TargetPc, c: NewControl) -> Result<NewControl, End>
 }
 
 // Kind 7: end as first says, at address second. (first is a record's number, any one: the match is its conversion.)
+#[tactic(auto, unfolding(model::specs::NewCore::stops, machine::specs::Ends::ending_of))]
 fn stop_as(first: u32, second: SourcePc, c: NewControl) -> End
     ensures { halt (ending_of result) ≡ stops first second.0 c.at.0 }
 {

@@ -29,6 +29,7 @@ fn decode(state: &[u8; NEW_STATE], regs: &mut File) -> Standing<NewControl>
 }
 
 // The bytes of a state, the current window among the others, and how it ended.
+#[tactic(auto, unfolding(model::specs::StateBytes::new_bytes))]
 fn encode(regs: &mut File, s: Standing<NewControl>, state: &mut [u8; NEW_STATE]) -> Ended
     ensures { (ending result.end result.number ≡ standing_of s.end) × (regs.new ≡ laid regs.old) × ((a : List ℕ) → state.new ≡ new_bytes (new_state regs.old s a)) }
 {

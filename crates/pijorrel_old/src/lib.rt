@@ -30,6 +30,7 @@ fn decode(state: &[u8; OLD_STATE], regs: &mut File) -> Standing<OldControl>
 }
 
 // The bytes of a state, the current window among the others, and how it ended.
+#[tactic(auto, using(words::proofs::Conditions::one_bit), unfolding(model::specs::StateBytes::old_bytes, model::specs::StateBytes::is_set))]
 fn encode(regs: &mut File, s: Standing<OldControl>, state: &mut [u8; OLD_STATE]) -> Ended
     ensures { (ending result.end result.number ≡ standing_of s.end) × (regs.new ≡ laid regs.old) × ((a : List ℕ) → state.new ≡ old_bytes (old_state regs.old s a)) }
 {
@@ -48,6 +49,7 @@ fn encode(regs: &mut File, s: Standing<OldControl>, state: &mut [u8; OLD_STATE])
 }
 
 // Begins at an address: registers, flags, Y, nesting and windows stay.
+#[tactic(auto, unfolding(model::specs::StateBytes::old_begins, model::specs::StateBytes::old_in))]
 pub fn pijorrel_old_begin(pc: u32, state: &mut [u8; OLD_STATE])
     ensures { state.new ≡ old_begins pc state.old }
 {

@@ -52,6 +52,7 @@ fn copy_eight(regs: &mut File, from: usize, to: usize)
     regs[to + 7] = h;
 }
 
+#[tactic(auto, using(std::proofs::Common::arith, crate::proofs::Ring::eight_cleared))]
 fn clear_eight(regs: &mut File, at: usize)
     requires { at + 8 ≤ file_size }
     ensures { regs.new ≡ put_each (λ k. at + k) (λ k. 0) 8 regs.old }
@@ -123,6 +124,7 @@ fn next_nesting(o: WindowOperation, w: u32) -> Result<u32, End>
 }
 
 // The sum is read in the old window, and written in the new.
+#[tactic(auto, unfolding(machine::specs::Ends::answered))]
 pub fn window(regs: &mut File, o: WindowOperation, rd: u32, rs1: u32, x: Operand) -> Result<(), End>
     ensures { done regs.new result ≡ settle regs.old (window_of o rd (address_of regs.old rs1 x) regs.old) }
 {
