@@ -27,6 +27,7 @@ impl<'a> Text<'a> {
     }
 
     // Puts bytes.
+    #[tactic(auto, unfolding(crate::specs::Text::inserted))]
     pub fn put_bytes(&mut self, bytes: &[u8])
         requires { self.old.len + length bytes.now ≤ length self.old.out.now }
         ensures { Put self.old bytes.now (length bytes.now) self.new }
@@ -37,6 +38,7 @@ impl<'a> Text<'a> {
     }
 
     // Puts a number in decimal digits.
+    #[tactic(auto, using(crate::proofs::Decimal::decimal_as_printed, crate::proofs::Writing::put_within))]
     fn put_number(&mut self, v: u64)
         requires { self.old.len + 20 ≤ length self.old.out.now }
         ensures { Put self.old (decimal v) 20 self.new }

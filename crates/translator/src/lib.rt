@@ -39,6 +39,7 @@ fn bad_entry(base: u32, size: usize, e: u32) -> bool
 
 // Refusals 1 and 2.
 #[inline(always)]
+#[tactic(auto, unfolding(crate::specs::Handing::image_checked))]
 fn check_image(image: Image<'_>) -> Result<(), Refusal>
     ensures { result ≡ image_checked (length image.entry.bytes.now) image.entry.base }
 {
