@@ -3,12 +3,24 @@ use Rattle.std.specs.Prelude.{ℕ, ◌+◌, ◌*◌, min, Bool, ◌&&◌, List, 
 use Rattle.numbers.specs.Choice.{pick}
 use Rattle.model.specs.Translation.{Back, returned, translation}
 use Rattle.case_files.specs.declared.Found.{Found}
-use Rattle.answer_cases.specs.declared.translation.Parts.{Parts}
 use Rattle.case_files.specs.Files.{number_in, part_of, padded_to, holding, one_entry}
 
 -- how many places or records a case has: those that its answer counts, and none beside a refusal
 abbrev pub counted_in : ℕ → ℕ → ℕ
 counted_in answer count = pick (eqb answer 0) count 0
+
+-- where the parts of a case start, and how many bytes its image (extent), its entries (size), its places (rows) and its records (bulk)
+-- have
+pub record Parts : Type 0 where
+  pub image : ℕ
+  pub extent : ℕ
+  pub entries : ℕ
+  pub size : ℕ
+  pub places : ℕ
+  pub rows : ℕ
+  pub records : ℕ
+  pub bulk : ℕ
+  pub next : ℕ
 
 -- nine numbers, an image, entries, places, records
 unfoldable pub translation_parts : List ℕ → ℕ → Parts

@@ -1,9 +1,9 @@
 // A case of the listing library: the bytes that the listing program read, and all that it writes.
-ghost use Rattle.std.specs.Prelude.{◌≡◌, ◌+◌, ◌≤◌, length};
+ghost use Rattle.std.specs.Prelude.{◌≡◌};
 ghost use Rattle.case_files.specs.Files.{holding};
 ghost use Rattle.answer_cases.specs.Listings.{listed_found};
 
-use case_files::{Found, holds, number, one, padded, part};
+use case_files::{Case, Found, holds, padded, part};
 
 // What a case starts with.
 const TAG: u32 = 0x4C495354;
@@ -15,17 +15,16 @@ fn shows(out: &[u8; 131072], text: &[u8]) -> bool
     holds(out, text, 0xA5)
 }
 
-// Lists the case that starts at a position, in a buffer that held other bytes and keeps them past the listing. It has one entry.
-pub fn check(bytes: &[u8], at: usize) -> Found
-    requires { at ≤ length bytes.now + 4 }
-    ensures { result ≡ listed_found bytes.now at }
+// Lists a case, in a buffer that held other bytes and keeps them past the listing. It has one entry.
+pub fn check(case: &Case) -> Found
+    ensures { result ≡ listed_found case.now.bytes.now case.now.at }
 {
-    let extent = number(bytes, at + 4);
-    let size = number(bytes, at + 8);
-    let text = at + 12 + padded(extent);
-    let known = part(bytes, text, size as usize);
+    let extent = case.number(1);
+    let size = case.number(2);
+    let text = case.at + 12 + padded(extent);
+    let known = part(case.bytes, text, size as usize);
     let mut out = [0xA5u8; 131072];
-    let n = listing::list(part(bytes, at + 12, extent as usize), &mut out);
-    let agrees = (number(bytes, at) == TAG) & (n == size as usize) & shows(&out, known);
-    one(text + padded(size), agrees)
+    let n = listing::list(part(case.bytes, case.at + 12, extent as usize), &mut out);
+    let agrees = (case.tag() == TAG) & (n == size as usize) & shows(&out, known);
+    Found::one(text + padded(size), agrees)
 }

@@ -3,14 +3,16 @@
 
 ghost use Rattle.std.specs.Prelude.{◌≡◌, ◌-◌, ◌*◌, ◌/◌, ◌%◌, ◌&&◌, eqb};
 ghost use Rattle.numbers.specs.Choice.{pick};
+ghost use Rattle.numbers.specs.Number.{plus, minus};
 ghost use Rattle.words.specs.Conditions.{nzvc_of};
 ghost use Rattle.machine.specs.Registers.{register_of, put_register, value_of};
 ghost use Rattle.arithmetic.specs.Arithmetic.{top, sum_overflow, sum_carry, difference_overflow, difference_carry, shifted_left, shifted_right, shifted_signed, shift_of, carry_of, sum_of, difference_of, logic_of, product_of, written, after, arithmetic_of};
 
+use machine::Flags;
 use machine::registers::{File, put, put_y, reg, value};
-use machine::{Flags, bit};
 use words::{Operand, Operation, ShiftOperation};
 
+#[tactic(auto, unfolding(crate::specs::Arithmetic::top))]
 fn top_bit(x: u32) -> bool
     ensures { result ≡ top x }
 {
@@ -23,25 +25,23 @@ fn complement(x: u32) -> u32
     4294967295 - x
 }
 
-fn low5(x: u32) -> u32
-    ensures { result ≡ x % 32 }
-{
-    x & 31
-}
-
+// V8's three shifts, a line each, as `shift_of` has a clause for each.
+#[tactic(auto, unfolding(crate::specs::Arithmetic::shifted_left))]
 fn sll(a: u32, b: u32) -> u32
     ensures { result ≡ shifted_left a b }
 {
-    a << low5(b)
+    a << (b % 32)
 }
 
+#[tactic(auto, unfolding(crate::specs::Arithmetic::shifted_right))]
 fn srl(a: u32, b: u32) -> u32
     ensures { result ≡ shifted_right a b }
 {
-    a >> low5(b)
+    a >> (b % 32)
 }
 
 // The sign comes in from the left.
+#[tactic(auto, unfolding(crate::specs::Arithmetic::shifted_signed))]
 fn sra(a: u32, b: u32) -> u32
     ensures { result ≡ shifted_signed a b }
 {
@@ -52,7 +52,8 @@ fn sra(a: u32, b: u32) -> u32
     }
 }
 
-// V8's V and C, in its steps and order, from r[rs1]<31>, operand2<31> and result<31>: of a sum, then of a difference.
+// V8's V and C, in its steps and order, from r[rs1]<31>, operand2<31> and result<31>: of a sum, then of a difference. Four functions, since V8
+// writes four lines and `FlagsExact` speaks of each.
 fn sum_overflow(rs1: bool, operand2: bool, res: bool) -> bool
     ensures { result ≡ sum_overflow rs1 operand2 res }
 {
@@ -78,62 +79,63 @@ fn difference_carry(rs1: bool, operand2: bool, res: bool) -> bool
 }
 
 // The flags from a result, V and C.
+#[tactic(auto, unfolding(words::specs::Conditions::nzvc_of, words::specs::Conditions::bit_of))]
 fn flags_with(r: u32, v: bool, c: bool) -> Flags
     ensures { result.nzvc ≡ nzvc_of (top r) (eqb r 0) v c }
 {
-    let n = bit(top_bit(r)) * 8 + bit(r == 0) * 4 + bit(v) * 2 + bit(c);
-    Flags { nzvc: n }
+    Flags {
+        nzvc: u32::from(top_bit(r)) * 8 + u32::from(r == 0) * 4 + u32::from(v) * 2 + u32::from(c),
+    }
 }
 
-fn sum_flags(a: u32, b: u32, r: u32) -> Flags
-    ensures { result.nzvc ≡ nzvc_of (top r) (eqb r 0) (sum_overflow (top a) (top b) (top r)) (sum_carry (top a) (top b) (top r)) }
+// The flags of a sum, or of a difference: V and C from the three top bits.
+#[inline(always)]
+fn carried_flags(less: bool, a: u32, b: u32, r: u32) -> Flags
+    ensures { result.nzvc ≡ nzvc_of (top r) (eqb r 0) (pick less (difference_overflow (top a) (top b) (top r)) (sum_overflow (top a) (top b) (top r))) (pick less (difference_carry (top a) (top b) (top r)) (sum_carry (top a) (top b) (top r))) }
 {
     let rs1 = top_bit(a);
     let operand2 = top_bit(b);
     let result = top_bit(r);
-    flags_with(
-        r,
-        sum_overflow(rs1, operand2, result),
-        sum_carry(rs1, operand2, result),
-    )
-}
-
-fn difference_flags(a: u32, b: u32, r: u32) -> Flags
-    ensures { result.nzvc ≡ nzvc_of (top r) (eqb r 0) (difference_overflow (top a) (top b) (top r)) (difference_carry (top a) (top b) (top r)) }
-{
-    let rs1 = top_bit(a);
-    let operand2 = top_bit(b);
-    let result = top_bit(r);
-    flags_with(
-        r,
-        difference_overflow(rs1, operand2, result),
-        difference_carry(rs1, operand2, result),
-    )
+    if less {
+        flags_with(
+            r,
+            difference_overflow(rs1, operand2, result),
+            difference_carry(rs1, operand2, result),
+        )
+    } else {
+        flags_with(
+            r,
+            sum_overflow(rs1, operand2, result),
+            sum_carry(rs1, operand2, result),
+        )
+    }
 }
 
 // C, as a number.
+#[tactic(auto, unfolding(crate::specs::Arithmetic::carry_of))]
 fn carry(f: Flags) -> u32
     ensures { result ≡ carry_of f.nzvc }
 {
     f.nzvc & 1
 }
 
-// add and addx: k is what comes in from C.
-fn add_word(f: Flags, regs: &mut File, k: u32, cc: bool, rd: u32, rs1: u32, x: Operand) -> Flags
-    ensures { after result.nzvc regs.new ≡ written f.nzvc regs.old cc rd (sum_of (register_of regs.old rs1) (value_of regs.old x) k) }
+// A sum, or a difference, with what comes in from C.
+#[inline(always)]
+fn total(less: bool, a: u32, b: u32, k: u32) -> u32
+    ensures { result ≡ pick less (minus (minus a b) k) (plus (plus a b) k) }
 {
-    let a = reg(regs, rs1);
-    let b = value(regs, x);
-    let v = numbers::add(numbers::add(a, b), k);
-    put(regs, rd, v);
-    if cc {
-        return sum_flags(a, b, v);
+    if less {
+        numbers::subtract(numbers::subtract(a, b), k)
+    } else {
+        numbers::add(numbers::add(a, b), k)
     }
-    f
 }
 
-// sub and subx.
-fn subtract_word(
+// add and addx, sub and subx: k is what comes in from C.
+#[inline(always)]
+#[tactic(auto, unfolding(crate::specs::Arithmetic::sum_of, crate::specs::Arithmetic::difference_of))]
+fn total_word(
+    less: bool,
     f: Flags,
     regs: &mut File,
     k: u32,
@@ -142,41 +144,32 @@ fn subtract_word(
     rs1: u32,
     x: Operand,
 ) -> Flags
-    ensures { after result.nzvc regs.new ≡ written f.nzvc regs.old cc rd (difference_of (register_of regs.old rs1) (value_of regs.old x) k) }
+    ensures { after result.nzvc regs.new ≡ written f.nzvc regs.old cc rd (pick less (difference_of (register_of regs.old rs1) (value_of regs.old x) k) (sum_of (register_of regs.old rs1) (value_of regs.old x) k)) }
 {
     let a = reg(regs, rs1);
     let b = value(regs, x);
-    let v = numbers::subtract(numbers::subtract(a, b), k);
+    let v = total(less, a, b, k);
     put(regs, rd, v);
-    if cc {
-        return difference_flags(a, b, v);
-    }
-    f
+    if cc { carried_flags(less, a, b, v) } else { f }
 }
 
 // A result that clears V and C where it sets the flags.
+#[tactic(auto, unfolding(crate::specs::Arithmetic::logic_of, words::specs::Conditions::nzvc_of, words::specs::Conditions::bit_of))]
 fn logic_word(f: Flags, regs: &mut File, cc: bool, rd: u32, v: u32) -> Flags
     ensures { after result.nzvc regs.new ≡ written f.nzvc regs.old cc rd (logic_of v) }
 {
     put(regs, rd, v);
-    if cc {
-        return flags_with(v, false, false);
-    }
-    f
+    if cc { flags_with(v, false, false) } else { f }
 }
 
 // What a factor a takes off the product's high word: read as signed with bit 31 set it counts 2^32 less, so the other factor.
 fn off(sign: bool, a: u32, b: u32) -> u32
     ensures { result ≡ pick (sign && top a) b 0 }
 {
-    if sign {
-        if top_bit(a) {
-            return b;
-        }
-    }
-    0
+    if sign && top_bit(a) { b } else { 0 }
 }
 
+#[tactic(auto, using(crate::proofs::Products::product_lt))]
 fn product(a: u32, b: u32) -> u64
     ensures { result ≡ a * b }
 {
@@ -196,6 +189,7 @@ fn high_word(p: u64) -> u32
 }
 
 // umul and smul: the high 32 bits go to Y, the low to rd.
+#[tactic(auto, using(crate::proofs::Products::high_of, crate::proofs::Products::low_of), unfolding(crate::specs::Arithmetic::logic_of, crate::specs::Arithmetic::product_of))]
 fn multiply_word(
     f: Flags,
     regs: &mut File,
@@ -219,6 +213,7 @@ fn multiply_word(
 }
 
 // The operation is matched before a register is read, so that the compiler joins this match with the reader's.
+#[tactic(auto, unfolding(crate::specs::Arithmetic::outcome_of, crate::specs::Arithmetic::arithmetic_of))]
 pub fn operate(
     f: Flags,
     regs: &mut File,
@@ -231,22 +226,23 @@ pub fn operate(
     ensures { after result.nzvc regs.new ≡ arithmetic_of f.nzvc regs.old o cc rd rs1 x }
 {
     match o {
-        Operation::Add => add_word(f, regs, 0, cc, rd, rs1, x),
+        Operation::Add => total_word(false, f, regs, 0, cc, rd, rs1, x),
         Operation::And => logic_word(f, regs, cc, rd, reg(regs, rs1) & value(regs, x)),
         Operation::Or => logic_word(f, regs, cc, rd, reg(regs, rs1) | value(regs, x)),
         Operation::Xor => logic_word(f, regs, cc, rd, reg(regs, rs1) ^ value(regs, x)),
-        Operation::Sub => subtract_word(f, regs, 0, cc, rd, rs1, x),
+        Operation::Sub => total_word(true, f, regs, 0, cc, rd, rs1, x),
         Operation::Andn => logic_word(f, regs, cc, rd, reg(regs, rs1) & complement(value(regs, x))),
         Operation::Orn => logic_word(f, regs, cc, rd, reg(regs, rs1) | complement(value(regs, x))),
         Operation::Xnor => logic_word(f, regs, cc, rd, reg(regs, rs1) ^ complement(value(regs, x))),
-        Operation::Addx => add_word(f, regs, carry(f), cc, rd, rs1, x),
-        Operation::Subx => subtract_word(f, regs, carry(f), cc, rd, rs1, x),
+        Operation::Addx => total_word(false, f, regs, carry(f), cc, rd, rs1, x),
+        Operation::Subx => total_word(true, f, regs, carry(f), cc, rd, rs1, x),
         Operation::Umul => multiply_word(f, regs, false, cc, rd, rs1, x),
         Operation::Smul => multiply_word(f, regs, true, cc, rd, rs1, x),
     }
 }
 
 // A shift sets no flag.
+#[tactic(auto, unfolding(crate::specs::Arithmetic::shift_of))]
 pub fn shift(regs: &mut File, o: ShiftOperation, rd: u32, rs1: u32, x: Operand)
     ensures { regs.new ≡ put_register regs.old rd (shift_of o (register_of regs.old rs1) (value_of regs.old x)) }
 {

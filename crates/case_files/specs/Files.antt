@@ -4,7 +4,6 @@ use Rattle.numbers.specs.Choice.{pick}
 use Rattle.numbers.specs.Number.{number_at}
 use Rattle.model.specs.StateBytes.{old_size}
 use Rattle.case_files.specs.declared.Found.{Found}
-use Rattle.case_files.specs.declared.Parts.{Parts}
 
 -- the number at a position, or 0 where the bytes end before it does
 unfoldable pub number_in : List ℕ → ℕ → ℕ
@@ -47,6 +46,16 @@ pub record Checked : Type 0 where
 
 abbrev pub checked : Found → List ℕ → Checked
 checked verdict area = record { verdict = verdict; area = area }
+
+-- where the parts of a case start, and how many bytes its image (extent) and its data (size) have
+pub record Parts : Type 0 where
+  pub image : ℕ
+  pub extent : ℕ
+  pub before : ℕ
+  pub size : ℕ
+  pub known : ℕ
+  pub after : ℕ
+  pub next : ℕ
 
 -- a case of the old core, or a trail: six numbers, a state, an image, data, so many bytes of answers, data
 unfoldable pub old_parts : List ℕ → ℕ → ℕ → Parts

@@ -1,12 +1,15 @@
 -- Laws of effects: the words that are not done here.
 use Rattle.machine.specs.declared.End.{End}
 use Rattle.numbers.proofs.Choice.{either}
-use Rattle.numbers.specs.Number.{minus}
+use Rattle.std.specs.Prelude.{nat_lt}
+use Rattle.numbers.specs.Number.{minus, signed}
 use Rattle.numbers.specs.Choice.{pick}
 use Rattle.words.specs.declared.Width.{Width}
 use Rattle.words.specs.declared.Operand.{Operand}
 use Rattle.words.specs.Conditions.{holds_of}
-use Rattle.machine.proofs.Ends.{EndsWell, within_ends, going_of, over_of}
+use Rattle.std.specs.Prelude.{Result, Ok, Err}
+use Rattle.machine.specs.declared.Flags.{Flags}
+use Rattle.machine.proofs.Ends.{EndsWell, within_ends, not_going}
 use Rattle.machine.specs.Registers.{register_of, put_register, address_of}
 use Rattle.effects.specs.DataArea.{width_of, sign_of, size_of, put_value, loaded_at, access, load_of, store_of}
 use Rattle.windows.specs.Windows.{nesting_of, turned, window_of}
@@ -18,14 +21,14 @@ use native.Mathlib.Omega.{arith}
 use mathlib.Core.Bool.{Bool, false}
 use Rattle.words.specs.declared.Instruction.TheVariants.{Illegal, Call, Sethi, Bicc, Arithmetic, Jmpl, Ticc, Load, Store, Shift, Rdy, Wry, Window}
 use Rattle.words.specs.declared.Instruction.{Instruction}
-use Rattle.machine.specs.Ends.{live, settle, ending, go, halt, ending_of, is_going, within, left, Ending, Next, state}
+use Rattle.machine.specs.Ends.{live, settle, ending, go, halt, answered, within, Ending, Next, state}
 use Rattle.effects.specs.Effect.{effect_of, Machine, trap_of, with_registers, with_area, machine}
 use denote.Enum.Declared.{tag_of}
 use Rattle.words.specs.contracts.Instruction.{the_type as instruction}
 use types.Run.{OneOf, miss}
 use mathlib.Core.List.{List, [], ◌∷◌}
-use mathlib.Core.Path.{◌≡◌, refl, ap}
-use Prim.Native.Nat.{ℕ, ◌+◌, ◌-◌, ◌%◌}
+use mathlib.Core.Path.{◌≡◌, refl}
+use Prim.Native.Nat.{ℕ, ◌+◌, ◌-◌, ◌%◌, ◌^◌}
 
 -- the numbers are those of the variants, in the order of the enum
 abbrev transfers : List ℕ
@@ -97,6 +100,11 @@ effects_end db (Rdy rd) m = tt
 effects_end db (Wry s) m = tt
 effects_end db (Window o rd rs1 x) m = within_ends (with_registers m) _ (window_ends o rd (address_of m.registers rs1 x) m.registers)
 
+-- a word has no sign to extend
+pub whole_word : (v : ℕ) → signed 32 v ≡ v
+unfolding signed
+whole_word v = either (λ x. x ≡ v) (nat_lt v (2 ^ 31)) v (v + 0) refl (omega arith)
+
 -- the parts of equal states
 same_ending : {S : Type 0} {x y : S} {d e : Ending} → state x d ≡ state y e → d ≡ e
 same_ending p = cc
@@ -105,16 +113,14 @@ same_state : {S : Type 0} {x y : S} {d e : Ending} → state x d ≡ state y e �
 same_state p = cc
 
 -- a core that does a word by `perform`: it goes on as `on` says, or ends and stays as it was. `stay` is the core's state around the machine.
-pub after_effect : {S : Type 0} (stay on : Machine → S) (rs rs' a a' : List ℕ) (f f' : ℕ) (n : Next Machine) (e : End) → EndsWell n
-    → left (machine rs' f' a') e ≡ settle (machine rs f a) n
-    → pick (is_going e) (live (on (machine rs' f' a'))) (left (stay (machine rs' f a')) e) ≡ settle (stay (machine rs f a)) (within on n)
-unfolding settle within
-after_effect stay on rs rs' a a' f f' (go m) e w h =
-    let g : ending_of e ≡ ending 0 0 = same_ending h in
-    let same : machine rs' f' a' ≡ m = same_state h in
-    rw (going_of e g, same)
-after_effect stay on rs rs' a a' f f' (halt (ending k v)) e w h =
-    let g : ending_of e ≡ ending k v = same_ending h in
-    let rs-same : rs' ≡ rs = ap (λ (m : Machine). m.registers) (same_state h) in
-    let a-same : a' ≡ a = ap (λ (m : Machine). m.area) (same_state h) in
-    rw (over_of e k v g w.0, g, rs-same, a-same)
+pub after_effect : {S : Type 0} (stay on : Machine → S) (rs rs' a a' : List ℕ) (f : ℕ) (n : Next Machine) (r : Result Flags End) → EndsWell n
+    → answered (λ g. machine rs' g.nzvc a') (machine rs' f a') r ≡ settle (machine rs f a) n
+    → answered (λ g. on (machine rs' g.nzvc a')) (stay (machine rs' f a')) r ≡ settle (stay (machine rs f a)) (within on n)
+unfolding settle within answered
+after_effect stay on rs rs' a a' f (go m) (Ok g) w h = rw (same_state h)
+after_effect stay on rs rs' a a' f (go m) (Err e) w h = absurd (not_going e (same_ending h))
+after_effect stay on rs rs' a a' f (halt (ending k v)) (Ok g) w h =
+    let z : ending 0 0 ≡ ending k v = same_ending h in
+    let y : 0 ≡ k = cc in
+    absurd (omega (arith, w.0))
+after_effect stay on rs rs' a a' f (halt e) (Err d) w h = rw (same_state h, same_ending h)

@@ -1,8 +1,7 @@
 // The effect of a word that does not transfer control: one function, which both cores call.
 ghost use Rattle.std.specs.Prelude.{◌≡◌};
 ghost use Rattle.words.specs.Conditions.{holds_of};
-ghost use Rattle.machine.specs.declared.End.TheVariants.{Going};
-ghost use Rattle.machine.specs.Ends.{left, settle};
+ghost use Rattle.machine.specs.Ends.{answered, done, settle};
 ghost use Rattle.effects.specs.Effect.{machine, trap_of, effect_of};
 
 use crate::data_area::{load, store};
@@ -20,63 +19,64 @@ pub fn holds(f: Flags, cond: u32) -> bool
 }
 
 // The end that a Ticc meets, if its condition holds.
-fn trap(f: Flags, regs: &File, cond: u32, rs1: u32, x: Operand) -> End
-    ensures { left tt result ≡ settle tt (trap_of f.nzvc regs.now cond rs1 x) }
+#[tactic(auto, unfolding(crate::specs::Effect::trap_of, machine::specs::Ends::answered, machine::specs::Ends::settle, machine::specs::Ends::ending_of))]
+fn trap(f: Flags, regs: &File, cond: u32, rs1: u32, x: Operand) -> Result<(), End>
+    ensures { done tt result ≡ settle tt (trap_of f.nzvc regs.now cond rs1 x) }
 {
     if holds(f, cond) {
         let t = address(regs, rs1, x);
-        return End::TrapTaken(t % 128);
+        return Err(End::TrapTaken(t % 128));
     }
-    End::Going
+    Ok(())
 }
 
-// The flags after a word, and how the run ended with it.
-#[derive(Clone, Copy)]
-pub struct Effect {
-    pub flags: Flags,
-    pub end: End,
-}
-
-fn standing(f: Flags, e: End) -> Effect
-    ensures { (result.flags ≡ f) × (result.end ≡ e) }
-{
-    Effect { flags: f, end: e }
-}
-
-// The run goes on.
-fn going(f: Flags) -> Effect
-    ensures { (result.flags ≡ f) × (result.end ≡ Going) }
-{
-    standing(f, End::Going)
-}
-
-// What a word does that does not transfer control; the others do nothing here.
-pub fn perform(i: Instruction, db: u32, regs: &mut File, f: Flags, area: &mut [u8]) -> Effect
-    ensures { left (machine regs.new result.flags.nzvc area.new) result.end ≡ settle (machine regs.old f.nzvc area.old) (effect_of db i (machine regs.old f.nzvc area.old)) }
+// What a word does that does not transfer control; the others do nothing here. The data base stands beside the area: `effect_of` has it apart
+// from the machine, so that in one struct with the area each clause would take both out again.
+#[tactic(auto, using(crate::proofs::Effects::idle), unfolding(crate::specs::Effect::effect_of, machine::specs::Ends::answered, machine::specs::Ends::settle, machine::specs::Ends::ending_of))]
+pub fn perform(
+    i: Instruction,
+    db: u32,
+    regs: &mut File,
+    f: Flags,
+    area: &mut [u8],
+) -> Result<Flags, End>
+    ensures { answered (λ g. machine regs.new g.nzvc area.new) (machine regs.new f.nzvc area.new) result ≡ settle (machine regs.old f.nzvc area.old) (effect_of db i (machine regs.old f.nzvc area.old)) }
 {
     match i {
         Instruction::Sethi(rd, k) => {
             put(regs, rd, k << 10);
-            going(f)
+            Ok(f)
         }
-        Instruction::Arithmetic(o, cc, rd, rs1, x) => going(operate(f, regs, o, cc, rd, rs1, x)),
-        Instruction::Ticc(cond, rs1, x) => standing(f, trap(f, regs, cond, rs1, x)),
-        Instruction::Load(o, rd, rs1, x) => standing(f, load(o, db, regs, area, rd, rs1, x)),
-        Instruction::Store(w, rd, rs1, x) => standing(f, store(w, db, regs, area, rd, rs1, x)),
+        Instruction::Arithmetic(o, cc, rd, rs1, x) => Ok(operate(f, regs, o, cc, rd, rs1, x)),
+        Instruction::Ticc(cond, rs1, x) => {
+            trap(f, regs, cond, rs1, x)?;
+            Ok(f)
+        }
+        Instruction::Load(o, rd, rs1, x) => {
+            load(o, db, regs, area, rd, rs1, x)?;
+            Ok(f)
+        }
+        Instruction::Store(w, rd, rs1, x) => {
+            store(w, db, regs, area, rd, rs1, x)?;
+            Ok(f)
+        }
         Instruction::Shift(o, rd, rs1, x) => {
             shift(regs, o, rd, rs1, x);
-            going(f)
+            Ok(f)
         }
         Instruction::Rdy(rd) => {
             put(regs, rd, y(regs));
-            going(f)
+            Ok(f)
         }
         Instruction::Wry(s) => {
             let x = s.operand;
             put_y(regs, reg(regs, s.rs1) ^ value(regs, x));
-            going(f)
+            Ok(f)
         }
-        Instruction::Window(o, rd, rs1, x) => standing(f, window(regs, o, rd, rs1, x)),
-        _ => going(f),
+        Instruction::Window(o, rd, rs1, x) => {
+            window(regs, o, rd, rs1, x)?;
+            Ok(f)
+        }
+        _ => Ok(f),
     }
 }

@@ -11,6 +11,7 @@ ghost use Rattle.words.specs.Flow.{operand_strays, flow_of, is_known};
 
 use words::Flow;
 
+#[tactic(auto, unfolding(words::specs::Flow::flow_of, words::specs::Reader::format0_of))]
 fn flow0(word: u32) -> Flow
     ensures { result ≡ flow_of (format0_of word) }
 {
@@ -39,6 +40,7 @@ fn operand_strays(op3: u32, word: u32) -> bool
     true
 }
 
+#[tactic(auto, unfolding(words::specs::Flow::flow_of, words::specs::Reader::strictly, words::specs::Reader::unused_set))]
 fn trap_flow(cond: u32, word: u32) -> Flow
     requires { register_strays word ≡ false }
     ensures { (rs1 : ℕ) (x : Operand) → result ≡ flow_of (strictly word (Ticc cond rs1 x)) }
@@ -52,6 +54,7 @@ fn trap_flow(cond: u32, word: u32) -> Flow
     Flow::Continues
 }
 
+#[tactic(auto, unfolding(words::specs::Flow::flow_of, words::specs::Reader::strictly, words::specs::Reader::unused_set))]
 fn rdy_flow(word: u32) -> Flow
     ensures { (rd : ℕ) → result ≡ flow_of (strictly word (Rdy rd)) }
 {
@@ -71,6 +74,8 @@ fn wry_flow(word: u32) -> Flow
     Flow::Continues
 }
 
+// An arm for each op3, of which the compiler makes a table. Ranges for the arms that say the same were tried: they prove, but become compares in a row,
+// and the translator took 5 % more instructions a word, the writer 8 %.
 fn other_flow2(op3: u32, cond: u32, rd: u32, word: u32) -> Flow
     requires { (operand_strays op3 word ≡ false) × (op3 ≡ 40 → rdy_strays word ≡ false) × (op3 ≡ 48 → wry_strays word ≡ false) }
     ensures { (rs1 : ℕ) (x : Operand) → result ≡ flow_of (strictly word (find other_rows none2 op3 cond rd rs1 x)) }
@@ -123,6 +128,7 @@ fn flow2(op3: u32, cond: u32, rd: u32, word: u32) -> Flow
 }
 
 // Rdy and wry, whose unused bits are their own, are told before the others: in the arms they made `read_flow` too large to go inline.
+#[tactic(auto, using(words::proofs::Strict::beside_none), unfolding(words::specs::Reader::format2_of))]
 fn flow2_or_y(op3: u32, word: u32) -> Flow
     requires { operand_strays op3 word ≡ false }
     ensures { (rs1 : ℕ) (x : Operand) → result ≡ flow_of (strictly word (format2_of op3 (bits word 25 4) (bits word 25 5) rs1 x)) }
@@ -136,6 +142,7 @@ fn flow2_or_y(op3: u32, word: u32) -> Flow
     flow2(op3, words::cond(word), words::rd(word), word)
 }
 
+#[tactic(auto, unfolding(words::specs::Flow::flow_of, words::specs::Reader::format3_of))]
 fn flow3(op3: u32) -> Flow
     ensures { (rd rs1 : ℕ) (x : Operand) → result ≡ flow_of (format3_of op3 rd rs1 x) }
 {
@@ -173,6 +180,7 @@ pub fn read_flow(word: u32) -> Flow
 }
 
 // Whether a flow is that of a known word.
+#[tactic(auto, unfolding(words::specs::Flow::is_known))]
 fn is_known(f: Flow) -> bool
     ensures { result ≡ is_known f }
 {
@@ -183,6 +191,7 @@ fn is_known(f: Flow) -> bool
 }
 
 // Whether a word of format 2 or 3 with this op3 is known, where no unused bit is set.
+#[tactic(auto, using(words::proofs::Strict::nothing_set, words::proofs::Strict::nothing_strays, words::proofs::Strict::nothing_strays_y))]
 pub fn is_form2(op3: u32) -> bool
     ensures { (rs1 : ℕ) (x : Operand) → result ≡ is_known (flow_of (format2_of op3 0 0 rs1 x)) }
 {

@@ -1,15 +1,15 @@
 -- Laws of the layout: how many records there are, the table's numbers, the first record of a place.
 use native.Mathlib.Nat.{zero-add}
 use Rattle.numbers.proofs.Lists.{get_up, drop_up, drop_all_up}
-use Rattle.numbers.proofs.Areas.{number_put, numbers_same, number_before, number_after}
+use Rattle.numbers.proofs.Areas.{number_put, numbers_same, number_before}
 use Rattle.numbers.specs.Number.{number_at, put_number, up_to, numbers_of}
 use Rattle.numbers.specs.Choice.{pick}
 use Rattle.model.specs.declared.Place.{Place}
 use Rattle.model.specs.Places.{kind_of, next_of, place_at, same_place}
-use Rattle.places.proofs.Rows.{length_places, places_same, place_same, shows_same, at_place}
-use borrow.Author.Tests.{ltb-true, ltb-false, leb-true, leb-false}
+use Rattle.places.proofs.Rows.{first_kept, length_places, places_same, place_same, shows_same, at_place}
+use borrow.Author.Tests.{ltb-true, ltb-false}
 use lib.ListN.{length, get_or, drop}
-use lib.Dec.{leb, ltb}
+use lib.Dec.{ltb}
 use native.Mathlib.Numerals.{add-one}
 use native.Mathlib.Omega.{arith}
 use mathlib.Core.List.{List, [], ◌∷◌, ◌++◌, append-nil, append_assoc}
@@ -52,23 +52,6 @@ module _ (l : List ℕ) (i v : ℕ) where
   abbrev l+ : List ℕ
   l+ = put_number l (16 * i + 12) v
 
-  pub row_kept : (j : ℕ) → SameRow l+ l j
-  row_kept j = go (leb j i) refl
-    where
-      go : (b : Bool) → leb j i ≡ b → SameRow l+ l j
-      go true e =
-          let h : j ≤ i = leb-true j i e in (
-            number_before l (16 * i + 12) v (16 * j) (omega arith),
-            number_before l (16 * i + 12) v (16 * j + 4) (omega arith),
-            number_before l (16 * i + 12) v (16 * j + 8) (omega arith),
-          )
-      go false e =
-          let h : i < j = leb-false j i e in (
-            number_after l (16 * i + 12) v (16 * j) (omega arith),
-            number_after l (16 * i + 12) v (16 * j + 4) (omega arith),
-            number_after l (16 * i + 12) v (16 * j + 8) (omega arith),
-          )
-
   row_put : ShowsIn l i → 16 * i + 16 ≤ length l → v < 2 ^ 32
       → numbers_of l+ (4 * (i + 1)) ≡ numbers_of l (4 * i) ++ (place_at (place_in l i) ∷ next_of (place_in l i) ∷ kind_of (place_in l i) ∷ v ∷ [])
   unfolding numbers_of up_to place_in
@@ -79,7 +62,7 @@ module _ (l : List ℕ) (i v : ℕ) where
       let k2 : 4 * suc (suc (4 * i)) ≡ 16 * i + 8 = omega arith in
       let k3 : 4 * suc (suc (suc (4 * i))) ≡ 16 * i + 12 = omega arith in
       let e : numbers_of l+ (4 * i) ≡ numbers_of l (4 * i) = numbers_same l+ l (4 * i) (λ m q. number_before l (16 * i + 12) v (4 * m) (omega arith)) in
-      let r = row_kept i in
+      let r = first_kept l i v i in
       rw (c, k0, k1, k2, k3, r.0, r.1, r.2, number_put l (16 * i + 12) v (omega arith) b, e, at_place (number_at l (16 * i)) (number_at l (16 * i + 4)) (number_at l (16 * i + 8)), s.its_next, s.its_kind)
       (simp append_assoc)
 

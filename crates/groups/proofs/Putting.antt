@@ -4,9 +4,10 @@ use Rattle.numbers.proofs.Areas.{numbers_put}
 use Rattle.numbers.specs.Number.{put_number, numbers_of}
 use Rattle.model.specs.declared.Place.{Place}
 use Rattle.groups.proofs.Laying.{next_place, no_place, needed_turn}
-use Rattle.groups.specs.Layout.{needed, Puts}
+use Rattle.groups.specs.Layout.{needed, Pushed, Puts, HasRoom}
 use lib.ListN.{length, drop}
-use native.Mathlib.Numerals.{add-one}
+use Rattle.std.proofs.lemmas.List.{length-append}
+use Rattle.groups.specs.declared.records.Records.{Records}
 use native.Mathlib.Omega.{arith}
 use mathlib.Core.List.{List, [], ◌∷◌, ◌++◌, append-nil, append_assoc}
 use mathlib.Core.Path.{◌≡◌, refl, sym, ap, ◌∙◌, fun_ext}
@@ -50,6 +51,13 @@ record_append go_held l = refl
 record_append (stop e p) l = refl
 record_append unknown l = refl
 
+records_append : (rs ss : List (Rec ℕ)) → records_numbers (rs ++ ss) ≡ records_numbers rs ++ records_numbers ss
+unfolding records_numbers
+records_append [] ss = refl
+records_append (r ∷ rs) ss =
+    record_append r (records_numbers (rs ++ ss))
+    ∙ rw (records_append rs ss, record_append r (records_numbers rs)) (sym (append_assoc (record_numbers r []) (records_numbers rs) (records_numbers ss)))
+
 put_append : (f : Place → ℕ) (g : Group Place) (rest : List (Rec ℕ))
     → records_numbers (put f g rest) ≡ records_numbers (put f g []) ++ records_numbers rest
 unfolding put records_numbers
@@ -58,70 +66,77 @@ put_append f (two r s) rest =
     record_append (numbered f r) (record_numbers (numbered f s) (records_numbers rest))
     ∙ rw (record_append (numbered f s) (records_numbers rest), record_append (numbered f r) (record_numbers (numbered f s) [])) (simp append_assoc)
 
--- records put one after the other
-pub then_record : (at : ℕ) (l0 l1 l2 : List ℕ) (x y : Rec ℕ) → numbers_of l1 (3 * at + 3) ≡ numbers_of l0 (3 * at) ++ records_numbers (x ∷ [])
-    → numbers_of l2 (3 * (at + 1) + 3) ≡ numbers_of l1 (3 * (at + 1)) ++ records_numbers (y ∷ [])
-    → numbers_of l2 (3 * (at + 2)) ≡ numbers_of l0 (3 * at) ++ records_numbers (x ∷ y ∷ [])
-unfolding records_numbers
-then_record at l0 l1 l2 x y h i =
-    let k : 3 * (at + 2) ≡ 3 * (at + 1) + 3 = omega arith in
-    let m : 3 * (at + 1) ≡ 3 * at + 3 = omega arith in
-    rw (k, record_append x (record_numbers y []))
-    (i ∙ rw (m, h) (append_assoc (numbers_of l0 (3 * at)) (record_numbers x []) (record_numbers y [])))
+-- records put behind others
+pub pushed_on : {l m n : Records} (xs ys : List (Rec ℕ)) → Pushed l xs m → Pushed m ys n → Pushed l (xs ++ ys) n
+pushed_on {l} {m} {n} xs ys x y =
+    record {
+      reaches = omega (arith, x.reaches, y.reaches, length-append xs ys);
+      numbers = y.numbers ∙ rw (x.numbers, append_assoc (numbers_of l.bytes.now (3 * l.count)) (records_numbers xs) (records_numbers ys), records_append xs ys);
+      size = y.size ∙ x.size;
+      lent = y.lent ∙ x.lent;
+    }
 
--- a group put, of one record or of two, from the numbers that were put
-module _ (f : Place → ℕ) (at : ℕ) (l0 l1 : List ℕ) where
-  pub puts_one : (x : Rec Place) {u : Rec ℕ} {r : ℕ} → (r ≡ at + 1) × (numbers_of l1 (3 * r) ≡ numbers_of l0 (3 * at) ++ records_numbers (u ∷ []))
-      → numbered f x ≡ u → Puts f (one x) at l0 l1 r
-  unfolding past put
-  puts_one x h e = record { reaches = h.0 ∙ add-one at; numbers = rw (← add-one at, ← h.0, e) h.1 }
+-- a group put, of one record or of two
+module _ (f : Place → ℕ) {g : Group Place} {l m : Records} where
+  pub puts_one : {x : Rec Place} {u : Rec ℕ} → g ≡ one x → numbered f x ≡ u → Pushed l (u ∷ []) m → Puts f g l m
+  unfolding put
+  puts_one e d h = rw (e, d) h
 
-  pub puts_two : (x y : Rec Place) {u v : Rec ℕ} {r : ℕ}
-      → (r ≡ at + 2) × (numbers_of l1 (3 * r) ≡ numbers_of l0 (3 * at) ++ records_numbers (u ∷ v ∷ [])) → numbered f x ≡ u → numbered f y ≡ v
-      → Puts f (two x y) at l0 l1 r
-  unfolding past put
-  puts_two x y {r = r} h d e = let k : suc (suc at) ≡ r = omega (arith, h.0) in record { reaches = sym k; numbers = rw (k, d, e) h.1 }
-
-pub puts_as : {f : Place → ℕ} {g h : Group Place} {at : ℕ} {l m : List ℕ} {r : ℕ} → g ≡ h → Puts f h at l m r → Puts f g at l m r
-puts_as e x = rw e x
+  pub puts_two : {n : Records} {x y : Rec Place} {u v : Rec ℕ} → g ≡ two x y → numbered f x ≡ u → numbered f y ≡ v → Pushed l (u ∷ []) m
+      → Pushed m (v ∷ []) n → Puts f g l n
+  unfolding put
+  puts_two {u = u} {v = v} e d c h i = rw (e, d, c) (pushed_on (u ∷ []) (v ∷ []) h i)
 
 -- the room that a group takes
-pub room_one : (at : ℕ) {g : Group Place} {x : Rec Place} {all : ℕ} → g ≡ one x → 12 * past g at ≤ all → 12 * at + 12 ≤ all
-unfolding past
-room_one at {g} {x} {all} e h = let k : 12 * suc at ≤ all = rw e at h in omega (arith, k)
+module _ (l : Records) {g : Group Place} where
+  pub room_one : {x : Rec Place} → g ≡ one x → HasRoom g l → 12 * l.count + 12 ≤ length l.bytes.now
+  unfolding past
+  room_one e h = let k : 12 * suc l.count ≤ length l.bytes.now = rw e at h in omega (arith, k)
 
-pub room_two : (at : ℕ) {g : Group Place} {x y : Rec Place} {all : ℕ} → g ≡ two x y → 12 * past g at ≤ all → 12 * at + 24 ≤ all
-unfolding past
-room_two at {g} {x} {y} {all} e h = let k : 12 * suc (suc at) ≤ all = rw e at h in omega (arith, k)
+  module _ {x y : Rec Place} (e : g ≡ two x y) (h : HasRoom g l) where
+    room_both : 12 * suc (suc l.count) ≤ length l.bytes.now
+    unfolding past
+    room_both = rw e at h
 
-pub room_as : (at : ℕ) {g h : Group Place} {all : ℕ} → g ≡ h → 12 * past g at ≤ all → 12 * past h at ≤ all
-room_as at e k = rw e at k
+    pub room_first : 12 * l.count + 12 ≤ length l.bytes.now
+    room_first = omega (arith, room_both)
+
+    pub room_second : {m : Records} {u : Rec ℕ} → Pushed l (u ∷ []) m → 12 * m.count + 12 ≤ length m.bytes.now
+    room_second p = omega (arith, room_both, p.reaches, p.size)
 
 -- a turn over the places, and its end
-module _ (lay : Grouping) (places : List ℕ) (count i at : ℕ) (f : Place → ℕ) where
-  pub put_turn : {all : ℕ} {R : List ℕ} (r r' : List ℕ) (at' : ℕ) → i < count
-      → at + needed lay (drop i (places_in places count)) ≡ all
-      → numbers_of r (3 * at) ++ records_numbers (records_from lay f (drop i (places_in places count))) ≡ R
-      → Puts f (lay (place_in places i) (drop (i + 1) (places_in places count))) at r r' at'
-      → (at' + needed lay (drop (i + 1) (places_in places count)) ≡ all)
-      × (numbers_of r' (3 * at') ++ records_numbers (records_from lay f (drop (i + 1) (places_in places count))) ≡ R)
-  unfolding records_from
-  put_turn {all} {R} r r' at' h ea er y =
-      let g = lay (place_in places i) (drop (i + 1) (places_in places count)) in
-      let c = next_place places count i refl h in
-      let t : records_numbers (records_from lay f (drop i (places_in places count)))
-      ≡ records_numbers (put f g []) ++ records_numbers (records_from lay f (drop (i + 1) (places_in places count))) =
-      rw c (put_append f g (records_from lay f (drop (i + 1) (places_in places count)))) in
-      rw y.reaches (needed_turn lay c refl at all ea, rw y.numbers (rw append_assoc (rw t at er)))
+module _ (lay : Grouping) (places : List ℕ) (count i : ℕ) (f : Place → ℕ) (l : Records) where
+  abbrev left : ℕ → List Place
+  left j = drop j (places_in places count)
 
-  pub put_end : {all : ℕ} (r : List ℕ) → count ≤ i → at + needed lay (drop i (places_in places count)) ≡ all
-      → numbers_of r (3 * at) ++ records_numbers (records_from lay f (drop i (places_in places count))) ≡ records_numbers (records_from lay f (places_in places count))
-      → numbers_of r (3 * all) ≡ records_numbers (records_from lay f (places_in places count))
+  -- how far a group reaches
+  pub past_put : {m : Records} (g : Group Place) → Puts f g l m → m.count ≡ past g l.count
+  unfolding past put
+  past_put (one r) h = omega (arith, h.reaches)
+  past_put (two r s) h = omega (arith, h.reaches)
+
+  pub put_turn : {all : ℕ} {R : List ℕ} (m : Records) → i < count
+      → l.count + needed lay (left i) ≡ all
+      → numbers_of l.bytes.now (3 * l.count) ++ records_numbers (records_from lay f (left i)) ≡ R
+      → Puts f (lay (place_in places i) (left (i + 1))) l m
+      → (m.count + needed lay (left (i + 1)) ≡ all)
+      × (numbers_of m.bytes.now (3 * m.count) ++ records_numbers (records_from lay f (left (i + 1))) ≡ R)
+  unfolding records_from
+  put_turn {all} {R} m h ea er y =
+      let g = lay (place_in places i) (left (i + 1)) in
+      let c = next_place places count i refl h in
+      let t : records_numbers (records_from lay f (left i)) ≡ records_numbers (put f g []) ++ records_numbers (records_from lay f (left (i + 1))) =
+      rw c (put_append f g (records_from lay f (left (i + 1)))) in
+      (rw (past_put g y) (needed_turn lay c refl l.count all ea), rw (y.numbers, append_assoc) (rw t at er))
+
+  pub put_end : {all : ℕ} → count ≤ i → l.count + needed lay (left i) ≡ all
+      → numbers_of l.bytes.now (3 * l.count) ++ records_numbers (records_from lay f (left i)) ≡ records_numbers (records_from lay f (places_in places count))
+      → numbers_of l.bytes.now (3 * all) ≡ records_numbers (records_from lay f (places_in places count))
   unfolding records_from records_numbers needed
-  put_end {all} r k ea er =
-      let d : drop i (places_in places count) ≡ [] = no_place places count i k in
-      let e : all ≡ at = omega (arith, rw d at ea) in
-      rw e (sym (append-nil (numbers_of r (3 * at))) ∙ (rw d at er))
+  put_end {all} k ea er =
+      let d : left i ≡ [] = no_place places count i k in
+      let e : all ≡ l.count = omega (arith, rw d at ea) in
+      rw e (sym (append-nil (numbers_of l.bytes.now (3 * l.count))) ∙ (rw d at er))
 
 -- the records depend on the first record of each place, and are as many as are needed
 module _ (lay : Grouping) where

@@ -1,19 +1,14 @@
--- Where the groups stand: what an extent counts, a record of the code, the first record of a place as the table has it, and a group that was put.
-use Rattle.std.specs.Prelude.{ℕ, ◌+◌, ◌*◌, ◌≤◌, ◌≡◌, List, [], ◌∷◌, ◌++◌, ltb}
+-- Where the groups stand: a record of the code, the first record of a place as the table has it, and records that were put.
+use Rattle.std.specs.Prelude.{ℕ, ◌+◌, ◌*◌, ◌≤◌, ◌≡◌, List, [], ◌∷◌, ◌++◌, ltb, length}
 use Rattle.numbers.specs.Choice.{pick}
 use Rattle.numbers.specs.Number.{number_at, numbers_of}
 use Rattle.model.specs.declared.Place.{Place}
 use Rattle.model.specs.Records.{Rec, do_word, link, hold, go_if, go_to, go_held, stop, Group, one, two, past, put, Grouping, rows_from, table_numbers, records_numbers}
 use Rattle.places.specs.Table.{places_in, number_of}
-use Rattle.places.specs.Index.{Tabled}
-use Rattle.groups.specs.declared.records.Extent.{Extent}
 use Rattle.groups.specs.declared.records.Record.{Record}
-use Rattle.groups.specs.declared.records.Record.TheVariants.{DoWord, Link, Hold, GoIf, GoTo, GoHeld, Stop}
-
--- an extent counts the places of an indexed table, and no more records than they can have
-pub record Counts (e : Extent) (bytes heads links : List ℕ) : Type 0 where
-  pub places : Tabled bytes e.count heads links
-  pub records : e.total ≤ 16384
+use Rattle.groups.specs.declared.records.Record.TheVariants.{DoWord, Link, Hold, GoIf, GoTo, GoHeld, Outside, Illegal}
+use Rattle.groups.specs.declared.records.Firsts.{Firsts}
+use Rattle.groups.specs.declared.records.Records.{Records}
 
 -- a record of the code as the definitions have it
 unfoldable pub recorded : Record → Rec ℕ
@@ -23,7 +18,8 @@ recorded (Hold w p) = hold w p.0
 recorded (GoIf c r) = go_if c r.0
 recorded (GoTo r) = go_to r.0
 recorded GoHeld = go_held
-recorded (Stop e p) = stop e p.0
+recorded (Outside p) = stop 2 p.0
+recorded (Illegal p) = stop 3 p.0
 
 -- the records of a group
 unfoldable pub size : Group Place → ℕ
@@ -40,13 +36,27 @@ unfoldable pub first_in : List ℕ → ℕ → ℕ → Place → ℕ
 first_in bytes count all x =
     pick (ltb (number_of x (places_in bytes count)) count) (number_at bytes (16 * number_of x (places_in bytes count) + 12)) all
 
+-- the same, by the table and the number of all records together
+abbrev pub first_of : Firsts → Place → ℕ
+first_of f = first_in f.table.now.places.now f.table.now.index.now.count f.past.0
+
 -- a table with its first records set: the places as they were, all numbers, and the records in all
 pub record Laid (lay : Grouping) (ps : List Place) (count : ℕ) (bytes : List ℕ) (r : ℕ) : Type 0 where
   pub all : r ≡ needed lay ps
   pub kept : places_in bytes count ≡ ps
   pub numbers : numbers_of bytes (4 * count) ≡ table_numbers (rows_from lay 0 ps)
 
--- a group put from record `at` on: how far it reaches, and the numbers up to there
-pub record Puts (f : Place → ℕ) (g : Group Place) (at : ℕ) (before after : List ℕ) (r : ℕ) : Type 0 where
-  pub reaches : r ≡ past g at
-  pub numbers : numbers_of after (3 * past g at) ≡ numbers_of before (3 * at) ++ records_numbers (put f g [])
+-- records put behind those that were there, in bytes that are still the lender's
+pub record Pushed (o : Records) (xs : List (Rec ℕ)) (n : Records) : Type 0 where
+  pub reaches : n.count ≡ o.count + length xs
+  pub numbers : numbers_of n.bytes.now (3 * n.count) ≡ numbers_of o.bytes.now (3 * o.count) ++ records_numbers xs
+  pub size : length n.bytes.now ≡ length o.bytes.now
+  pub lent : n.bytes.ghost_name ≡ o.bytes.ghost_name
+
+-- the records of a group put there, by the first record of each place
+abbrev pub Puts : (Place → ℕ) → Group Place → Records → Records → Type 0
+Puts f g o n = Pushed o (put f g []) n
+
+-- there is room for a group
+abbrev pub HasRoom : Group Place → Records → Type 0
+HasRoom g o = 12 * past g o.count ≤ length o.bytes.now

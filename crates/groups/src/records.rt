@@ -1,31 +1,22 @@
 // The records of all groups, three numbers each, big-endian, in bytes that the caller lends. What is put is typed, so that a record's number
 // and a source address, both numbers once written, cannot stand for each other.
-ghost use Rattle.std.specs.Prelude.{◌≡◌, ℕ, ◌+◌, ◌*◌, ◌≤◌, ◌<◌, [], ◌∷◌, ◌++◌, length};
+ghost use Rattle.std.specs.Prelude.{◌≡◌, ℕ, ◌+◌, ◌*◌, ◌≤◌, ◌<◌, [], ◌∷◌, length};
 ghost use Rattle.numbers.specs.Number.{numbers_of};
 ghost use Rattle.model.specs.declared.Place.{Place};
-ghost use Rattle.model.specs.declared.Place.TheVariants.{Pair, Held};
 ghost use Rattle.model.specs.Places.{plain, which_of};
-ghost use Rattle.model.specs.Records.{in_full, bicc_group, group_of, held_group_of, group, past, record_numbers, records_numbers, records_from};
+ghost use Rattle.model.specs.Records.{in_full, bicc_group, group_of, held_group_of, group, record_numbers, records_numbers, records_from};
 ghost use Rattle.places.specs.Control.{transferred};
-ghost use Rattle.places.specs.Table.{place_of, place_in, places_in, Shows};
-ghost use Rattle.places.specs.Index.{Tabled};
-ghost use Rattle.groups.specs.Layout.{Counts, recorded, first_in, needed, Puts};
+ghost use Rattle.places.specs.Table.{place_in};
+ghost use Rattle.places.specs.Lent.{listed};
+ghost use Rattle.groups.specs.Layout.{recorded, first_in, first_of, needed, Pushed, Puts, HasRoom};
 
-use machine::{SourcePc, TargetPc, further};
-use model::target;
-use places::control::{Fetched, fetch, untaken};
-use places::index::find;
-use places::table::{address, is_held, next, pair_kind};
+use machine::{SourcePc, TargetPc};
+use model::{Image, Place, target};
+use places::control::untaken;
+use places::table::Table;
 use words::Flow;
 
-// How many places and records there are.
-#[derive(Clone, Copy)]
-pub struct Extent {
-    pub count: usize,
-    pub total: usize,
-}
-
-// A record, by its kinds from 1 to 7.
+// A record, by its kinds from 1 to 7, of which the last has an end for an address outside and one for an illegal word.
 #[derive(Clone, Copy)]
 pub enum Record {
     DoWord(u32),
@@ -34,244 +25,173 @@ pub enum Record {
     GoIf(u32, TargetPc),
     GoTo(TargetPc),
     GoHeld,
-    Stop(u32, SourcePc),
+    Outside(SourcePc),
+    Illegal(SourcePc),
 }
 
-// The first record of a place, as the table has it; past the last record where the table has it not.
-fn first_record(
-    places: &[u8],
-    heads: &[u16; 8192],
-    links: &[u16; 8192],
-    e: Extent,
-    p: SourcePc,
-    n: SourcePc,
-    kind: u32,
-) -> TargetPc
-    requires { Counts e places.now heads.now links.now × Shows p.0 n.0 kind }
-    ensures { result.0 ≡ first_in places.now e.count e.total (place_of p.0 n.0 kind) }
-{
-    let j = find(places, heads, links, e.count, p, n, kind);
-    if j < e.count {
-        return TargetPc(numbers::read_number(places, 16 * j + 12));
+// Where the first record of each place stands: as the table has it, and past all records where the table has it not.
+#[derive(Clone, Copy)]
+struct Firsts<'a> {
+    table: &'a Table<'a>,
+    past: TargetPc,
+}
+
+impl Firsts<'_> {
+    #[inline(always)]
+    fn of(self, x: Place) -> TargetPc
+        ensures { result.0 ≡ first_of self.entry x }
+    {
+        match self.table.find(x) {
+            Some(i) => TargetPc(self.table.first_record(i)),
+            None => self.past,
+        }
     }
-    TargetPc(e.total as u32)
-}
 
-fn first_of_plain(
-    places: &[u8],
-    heads: &[u16; 8192],
-    links: &[u16; 8192],
-    e: Extent,
-    p: SourcePc,
-) -> TargetPc
-    requires { Counts e places.now heads.now links.now }
-    ensures { result.0 ≡ first_in places.now e.count e.total (plain p.0) }
-{
-    first_record(places, heads, links, e, p, further(p, 4), 0)
-}
-
-fn first_of_pair(
-    places: &[u8],
-    heads: &[u16; 8192],
-    links: &[u16; 8192],
-    e: Extent,
-    p: SourcePc,
-    n: SourcePc,
-) -> TargetPc
-    requires { Counts e places.now heads.now links.now }
-    ensures { result.0 ≡ first_in places.now e.count e.total (Pair p.0 n.0) }
-{
-    first_record(places, heads, links, e, p, n, pair_kind(p, n))
+    #[inline(always)]
+    fn of_plain(self, p: SourcePc) -> TargetPc
+        ensures { result.0 ≡ first_of self.entry (plain p.0) }
+    {
+        self.of(Place::Pair(p.0, p.further(4).0))
+    }
 }
 
 // A record's kind and the two numbers after it.
-#[derive(Clone, Copy)]
-struct Triple(u32, u32, u32);
-
-fn numbers_of(x: Record) -> Triple
+#[inline(always)]
+#[tactic(auto, unfolding(crate::specs::Layout::recorded, model::specs::Records::record_numbers))]
+fn numbers_of(x: Record) -> (u32, u32, u32)
     ensures { result.0 ∷ result.1 ∷ result.2 ∷ [] ≡ record_numbers (recorded x) [] }
 {
     match x {
-        Record::DoWord(word) => Triple(1, word, 0),
-        Record::Link(p) => Triple(2, p.0, 0),
-        Record::Hold(word, p) => Triple(3, word, p.0),
-        Record::GoIf(cond, to) => Triple(4, cond, to.0),
-        Record::GoTo(to) => Triple(5, to.0, 0),
-        Record::GoHeld => Triple(6, 0, 0),
-        Record::Stop(end, p) => Triple(7, end, p.0),
+        Record::DoWord(word) => (1, word, 0),
+        Record::Link(p) => (2, p.0, 0),
+        Record::Hold(word, p) => (3, word, p.0),
+        Record::GoIf(cond, to) => (4, cond, to.0),
+        Record::GoTo(to) => (5, to.0, 0),
+        Record::GoHeld => (6, 0, 0),
+        Record::Outside(p) => (7, 2, p.0),
+        Record::Illegal(p) => (7, 3, p.0),
     }
 }
 
-// Puts record `at`.
-fn put_record(records: &mut [u8], at: usize, x: Record)
-    requires { 12 * at + 12 ≤ length records.old }
-    ensures { numbers_of records.new (3 * at + 3) ≡ numbers_of records.old (3 * at) ++ records_numbers (recorded x ∷ []) }
-{
-    let n = numbers_of(x);
-    numbers::write_number(records, 12 * at, n.0);
-    numbers::write_number(records, 12 * at + 4, n.1);
-    numbers::write_number(records, 12 * at + 8, n.2);
+// The records put so far, in bytes that the caller lends.
+#[derive(Drop)]
+pub struct Records<'a> {
+    pub bytes: &'a mut [u8],
+    pub count: usize,
 }
 
-// Puts a group of one record, and answers where the next group comes.
-fn put_one(records: &mut [u8], at: usize, x: Record) -> usize
-    requires { 12 * at + 12 ≤ length records.old }
-    ensures { (result ≡ at + 1) × (numbers_of records.new (3 * result) ≡ numbers_of records.old (3 * at) ++ records_numbers (recorded x ∷ [])) }
-{
-    put_record(records, at, x);
-    at + 1
-}
-
-// Puts a group of two records, and answers where the next group comes.
-fn put_two(records: &mut [u8], at: usize, x: Record, y: Record) -> usize
-    requires { 12 * at + 24 ≤ length records.old }
-    ensures { (result ≡ at + 2) × (numbers_of records.new (3 * result) ≡ numbers_of records.old (3 * at) ++ records_numbers (recorded x ∷ recorded y ∷ [])) }
-{
-    put_record(records, at, x);
-    put_record(records, at + 1, y);
-    at + 2
-}
-
-// Puts the group of a Bicc.
-fn put_branch(
-    places: &[u8],
-    heads: &[u16; 8192],
-    links: &[u16; 8192],
-    e: Extent,
-    records: &mut [u8],
-    at: usize,
-    cond: u32,
-    annul: bool,
-    t: SourcePc,
-    n: SourcePc,
-) -> usize
-    requires { Counts e places.now heads.now links.now × (12 * past (bicc_group (which_of cond) cond annul t.0 n.0) at ≤ length records.old) }
-    ensures { Puts (first_in places.now e.count e.total) (bicc_group (which_of cond) cond annul t.0 n.0) at records.old records.new result }
-{
-    if cond == 0 {
-        let f = first_of_plain(places, heads, links, e, untaken(annul, n));
-        return put_one(records, at, Record::GoTo(f));
+impl Records<'_> {
+    #[inline(always)]
+    fn push(&mut self, x: Record)
+        requires { 12 * self.old.count + 12 ≤ length self.old.bytes.now }
+        ensures { Pushed self.old (recorded x ∷ []) self.new }
+    {
+        let (kind, first, second) = numbers_of(x);
+        let at = 12 * self.count;
+        numbers::write_number(self.bytes, at, kind);
+        numbers::write_number(self.bytes, at + 4, first);
+        numbers::write_number(self.bytes, at + 8, second);
+        self.count += 1;
     }
-    if cond == 8 {
-        if annul {
-            let f = first_of_plain(places, heads, links, e, t);
-            return put_one(records, at, Record::GoTo(f));
-        }
-        let f = first_of_pair(places, heads, links, e, n, t);
-        return put_one(records, at, Record::GoTo(f));
-    }
-    let f = first_of_pair(places, heads, links, e, n, t);
-    let g = first_of_plain(places, heads, links, e, untaken(annul, n));
-    put_two(records, at, Record::GoIf(cond, f), Record::GoTo(g))
-}
 
-// Puts the group of a word at (p, n).
-fn put_word(
-    places: &[u8],
-    heads: &[u16; 8192],
-    links: &[u16; 8192],
-    e: Extent,
-    records: &mut [u8],
-    at: usize,
-    f: Flow,
-    word: u32,
-    p: SourcePc,
-    n: SourcePc,
-) -> usize
-    requires { Counts e places.now heads.now links.now × (12 * past (group_of (transferred f) word p.0 n.0) at ≤ length records.old) }
-    ensures { Puts (first_in places.now e.count e.total) (group_of (transferred f) word p.0 n.0) at records.old records.new result }
-{
-    match f {
-        Flow::Faults => put_one(records, at, Record::Stop(3, p)),
-        Flow::Continues => {
-            let to = first_of_plain(places, heads, links, e, n);
-            put_two(records, at, Record::DoWord(word), Record::GoTo(to))
-        }
-        Flow::Traps => put_one(records, at, Record::DoWord(word)),
-        Flow::Calls(disp) => {
-            let to = first_of_pair(places, heads, links, e, n, target(p, disp));
-            put_two(records, at, Record::Link(p), Record::GoTo(to))
-        }
-        Flow::Branches(cond, annul, disp) => {
-            let t = target(p, disp);
-            put_branch(places, heads, links, e, records, at, cond, annul, t, n)
-        }
-        Flow::Jumps(rd) => {
-            let to = first_record(places, heads, links, e, n, SourcePc(0), 2);
-            put_two(records, at, Record::Hold(word, p), Record::GoTo(to))
-        }
-    }
-}
-
-// Puts the group of a word held at p.
-fn put_held(records: &mut [u8], at: usize, f: Flow, word: u32, p: SourcePc) -> usize
-    requires { 12 * past (held_group_of (transferred f) word p.0) at ≤ length records.old }
-    ensures { (first : Place → ℕ) → Puts first (held_group_of (transferred f) word p.0) at records.old records.new result }
-{
-    match f {
-        Flow::Faults => put_one(records, at, Record::Stop(3, p)),
-        Flow::Continues => put_two(records, at, Record::DoWord(word), Record::GoHeld),
-        Flow::Traps => put_one(records, at, Record::DoWord(word)),
-        Flow::Calls(disp) => put_two(records, at, Record::DoWord(word), Record::GoHeld),
-        Flow::Branches(cond, annul, disp) => put_two(
-            records,
-            at,
-            Record::DoWord(word),
-            Record::GoHeld,
-        ),
-        Flow::Jumps(rd) => put_two(records, at, Record::DoWord(word), Record::GoHeld),
-    }
-}
-
-// Puts the group of place i from record `at` on, and answers where the next comes.
-fn put_group(
-    image: &[u8],
-    base: u32,
-    places: &[u8],
-    heads: &[u16; 8192],
-    links: &[u16; 8192],
-    e: Extent,
-    records: &mut [u8],
-    at: usize,
-    i: usize,
-) -> usize
-    requires { Counts e places.now heads.now links.now × (i < e.count) × (12 * past (group image.now base (place_in places.now i)) at ≤ length records.old) }
-    ensures { Puts (first_in places.now e.count e.total) (group image.now base (place_in places.now i)) at records.old records.new result }
-{
-    let p = address(places, i);
-    let f = fetch(image, base, p);
-    match f {
-        Fetched::Word(word) => {
-            let flow = flows::read_flow(word);
-            if is_held(places, i) {
-                return put_held(records, at, flow, word, p);
+    // Puts the group of a Bicc.
+    #[inline(always)]
+    fn put_branch(&mut self, firsts: Firsts<'_>, cond: u32, annul: bool, t: SourcePc, n: SourcePc)
+        requires { HasRoom (bicc_group (which_of cond) cond annul t.0 n.0) self.old }
+        ensures { Puts (first_of firsts.entry) (bicc_group (which_of cond) cond annul t.0 n.0) self.old self.new }
+    {
+        match cond {
+            0 => self.push(Record::GoTo(firsts.of_plain(untaken(annul, n)))),
+            8 if annul => self.push(Record::GoTo(firsts.of_plain(t))),
+            8 => self.push(Record::GoTo(firsts.of(Place::Pair(n.0, t.0)))),
+            _ => {
+                let taken = firsts.of(Place::Pair(n.0, t.0));
+                let other = firsts.of_plain(untaken(annul, n));
+                self.push(Record::GoIf(cond, taken));
+                self.push(Record::GoTo(other));
             }
-            let n = next(places, i);
-            put_word(places, heads, links, e, records, at, flow, word, p, n)
         }
-        Fetched::Outside => put_one(records, at, Record::Stop(2, p)),
+    }
+
+    // Puts the group of a word at (p, n).
+    #[inline(always)]
+    fn put_word(&mut self, firsts: Firsts<'_>, f: Flow, word: u32, p: SourcePc, n: SourcePc)
+        requires { HasRoom (group_of (transferred f) word p.0 n.0) self.old }
+        ensures { Puts (first_of firsts.entry) (group_of (transferred f) word p.0 n.0) self.old self.new }
+    {
+        match f {
+            Flow::Faults => self.push(Record::Illegal(p)),
+            Flow::Continues => {
+                self.push(Record::DoWord(word));
+                self.push(Record::GoTo(firsts.of_plain(n)));
+            }
+            Flow::Traps => self.push(Record::DoWord(word)),
+            Flow::Calls(disp) => {
+                self.push(Record::Link(p));
+                self.push(Record::GoTo(firsts.of(Place::Pair(n.0, target(p, disp).0))));
+            }
+            Flow::Branches(cond, annul, disp) => self.put_branch(
+                firsts,
+                cond,
+                annul,
+                target(p, disp),
+                n,
+            ),
+            Flow::Jumps(_) => {
+                self.push(Record::Hold(word, p));
+                self.push(Record::GoTo(firsts.of(Place::Held(n.0))));
+            }
+        }
+    }
+
+    // Puts the group of a word held at p.
+    #[inline(always)]
+    fn put_held(&mut self, f: Flow, word: u32, p: SourcePc)
+        requires { HasRoom (held_group_of (transferred f) word p.0) self.old }
+        ensures { (first : Place → ℕ) → Puts first (held_group_of (transferred f) word p.0) self.old self.new }
+    {
+        match f {
+            Flow::Faults => self.push(Record::Illegal(p)),
+            Flow::Traps => self.push(Record::DoWord(word)),
+            _ => {
+                self.push(Record::DoWord(word));
+                self.push(Record::GoHeld);
+            }
+        }
+    }
+
+    // Puts the group of place i.
+    #[inline(always)]
+    fn put_group(&mut self, image: Image<'_>, firsts: Firsts<'_>, i: usize)
+        requires { (i < firsts.table.now.index.now.count) × HasRoom (group image.bytes.now image.base (place_in firsts.table.now.places.now i)) self.old }
+        ensures { Puts (first_of firsts.entry) (group image.entry.bytes.now image.entry.base (place_in firsts.entry.table.now.places.now i)) self.old self.new }
+    {
+        let table = firsts.table;
+        let p = table.address(i);
+        let Some(word) = image.word(p) else {
+            return self.push(Record::Outside(p));
+        };
+        let flow = flows::read_flow(word);
+        if table.is_held(i) {
+            self.put_held(flow, word, p);
+        } else {
+            self.put_word(firsts, flow, word, p, table.next(i));
+        }
     }
 }
 
 // Puts the groups of all places, in place order.
-pub fn put_groups(
-    image: &[u8],
-    base: u32,
-    places: &[u8],
-    heads: &[u16; 8192],
-    links: &[u16; 8192],
-    count: usize,
-    total: usize,
-    records: &mut [u8],
-)
-    requires { Tabled places.now count heads.now links.now × (total ≡ needed (in_full image.now base) (places_in places.now count)) × (12 * total ≤ length records.old) }
-    ensures { numbers_of records.new (3 * total) ≡ records_numbers (records_from (in_full image.now base) (first_in places.now count total) (places_in places.now count)) }
+#[inline(always)]
+pub fn put_groups(image: Image<'_>, table: &Table<'_>, total: usize, bytes: &mut [u8])
+    requires { (total ≡ needed (in_full image.bytes.now image.base) (listed table.now)) × (12 * total ≤ length bytes.old) }
+    ensures { numbers_of bytes.new (3 * total) ≡ records_numbers (records_from (in_full image.entry.bytes.now image.entry.base) (first_in table.now.places.now table.now.index.now.count total) (listed table.now)) }
 {
-    let e = Extent { count, total };
-    let mut at: usize = 0;
-    let mut i: usize = 0;
-    while i < count {
-        at = put_group(image, base, places, heads, links, e, records, at, i);
-        i += 1;
+    let firsts = Firsts {
+        table,
+        past: TargetPc(total as u32),
+    };
+    let mut records = Records { bytes, count: 0 };
+    for i in 0..table.len() {
+        records.put_group(image, firsts, i);
     }
 }

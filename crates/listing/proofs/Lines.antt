@@ -1,15 +1,15 @@
 -- Laws of lines: one number after another, one place or record after another.
 use Rattle.numbers.specs.Number.{number_at}
-use Rattle.listing.proofs.Writing.{written_more, goes_on, written_one}
+use Rattle.listing.proofs.Writing.{written_more, goes_on}
 use borrow.Author.Tests.{ltb-true, ltb-false}
-use lib.Seq.{drop-cons, take_all}
-use lib.ListN.{length, get_or, drop, set, drop_of_length-le, take, length-drop}
+use lib.Seq.{drop-cons}
+use lib.ListN.{length, get_or, drop, drop_of_length-le}
 use lib.Dec.{ltb}
 use native.Mathlib.Numerals.{add-one}
 use native.Mathlib.Omega.{arith}
 use mathlib.Core.List.{List, [], ◌∷◌, ◌++◌, append_assoc}
 use mathlib.Core.Bool.{Bool, true, false}
-use mathlib.Core.Path.{◌≡◌, refl, sym, ◌∙◌}
+use mathlib.Core.Path.{◌≡◌, refl, sym}
 use Prim.Native.Nat.{ℕ, suc, ◌+◌, ◌*◌, ◌-◌, ◌≤◌, ◌<◌}
 use Rattle.listing.specs.Text.{decimal, separator, some_left, line_of, inserted, Written}
 use Rattle.listing.specs.Listing.{place_lines, record_lines}
@@ -30,15 +30,14 @@ line_turn l j h =
     (sym (append_assoc (decimal (get_or l j 0)) (separator (ltb (suc j) (length l)) ∷ []) (line_of (drop (suc j) l))))
 
 -- a number and what follows it are put
-pub line_goes : {out out1 : List ℕ} {k k1 x : ℕ} (l : List ℕ) (j : ℕ) {T : List ℕ} {N : ℕ} → j < length l → k ≤ length out → k1 < length out1
-    → Written out k (decimal (get_or l j 0)) 20 out1 k1 → x ≡ separator (ltb (j + 1) (length l))
+pub line_goes : {out out1 out2 : List ℕ} {k k1 k2 m x : ℕ} (l : List ℕ) (j : ℕ) {T : List ℕ} {N : ℕ} → j < length l → k ≤ length out
+    → Written out k (decimal (get_or l j 0)) 20 out1 k1 → Written out1 k1 (x ∷ []) m out2 k2 → x ≡ separator (ltb (j + 1) (length l))
     → inserted out k (line_of (drop j l)) ≡ T → k + length (line_of (drop j l)) ≡ N
-    → (inserted (set out1 k1 x) (k1 + 1) (line_of (drop (j + 1) l)) ≡ T) × (k1 + 1 + length (line_of (drop (j + 1) l)) ≡ N)
-line_goes {out} {out1} {k} {k1} {x} l j {T} {N} h o r w ex e n =
-    let y = written_more o w (written_one out1 k1 x r) in
+    → (inserted out2 k2 (line_of (drop (j + 1) l)) ≡ T) × (k2 + length (line_of (drop (j + 1) l)) ≡ N)
+line_goes {out} {out1} {out2} {k} {k1} {k2} {m} {x} l j {T} {N} h o w s ex e n =
     let z = rw (line_turn l j h, ← ex) at e in
-    let m = rw (line_turn l j h, ← ex) at n in
-    goes_on (line_of (drop (j + 1) l)) T N o y z m
+    let y = rw (line_turn l j h, ← ex) at n in
+    goes_on (line_of (drop (j + 1) l)) T N o (written_more o w s) z y
 
 pub line_end : (l : List ℕ) (j : ℕ) → length l ≤ j → line_of (drop j l) ≡ []
 unfolding line_of
@@ -71,15 +70,3 @@ module _ (bytes : List ℕ) (count i : ℕ) (h : count ≤ i) where
   pub no_record_lines : record_lines bytes (count - i) i ≡ []
   unfolding record_lines
   no_record_lines = rw none
-
--- a text within a larger bound
-pub written_within : {out out1 text : List ℕ} {at m n r : ℕ} → length text ≤ n → Written out at text m out1 r → Written out at text n out1 r
-written_within h x = record { bytes = x.bytes; end = x.end; fits = h }
-
--- the digits at the end of a text of 20 bytes are put
-pub digits_put : {out out1 : List ℕ} {at r : ℕ} (text : List ℕ) (i v : ℕ) → drop i text ≡ decimal v
-    → Written out at (take (20 - i) (drop i text)) (length (take (20 - i) (drop i text))) out1 r → length text ≡ 20 → Written out at (decimal v) 20 out1 r
-digits_put text i v e w n =
-    let t : take (20 - i) (drop i text) ≡ decimal v = take_all (20 - i) (drop i text) (simp length-drop (omega arith)) ∙ e in
-    let l : length (decimal v) ≤ 20 = rw (← e) (simp length-drop (omega arith)) in
-    written_within l (rw t at w)

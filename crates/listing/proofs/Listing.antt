@@ -6,8 +6,7 @@ use native.Mathlib.Omega.{arith}
 use mathlib.Core.List.{List, [], ◌∷◌}
 use mathlib.Core.Path.{◌≡◌, ap, ◌∙◌}
 use Prim.Native.Nat.{ℕ, ◌≤◌, ◌<◌}
-use Rattle.model.specs.Translation.{translation}
-use Rattle.model.specs.declared.Answer.{Answer}
+use Rattle.model.specs.Translation.{Answer, translation}
 use Rattle.listing.specs.Listing.{entry_zero, refusal_text, answer_text, listed, listing_of, Listed}
 use Rattle.listing.specs.Text.{Written, inserted}
 use Rattle.translator.specs.Handing.{handed}

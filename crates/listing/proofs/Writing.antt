@@ -1,22 +1,18 @@
 -- Laws of text put into a buffer, piece by piece.
-use lib.Seq.{drop-drop, take_at, length-take-le, drop-append-add, set_split}
-use lib.ListN.{length, take, drop, set, length-append, take-append-drop}
+use lib.Seq.{drop-drop, take_at, length-take-le, drop-append-add}
+use lib.ListN.{length, take, drop, length-append, take-append-drop}
 use lib.Dec.{T}
 use native.Mathlib.Nat.{add-zero}
-use native.Mathlib.Numerals.{add-one}
 use native.Mathlib.Omega.{arith}
-use mathlib.Core.List.{List, [], ◌∷◌, ◌++◌, append_assoc, append-nil}
-use mathlib.Core.Path.{◌≡◌, refl, sym, ap, ◌∙◌}
-use Prim.Native.Nat.{ℕ, ◌+◌, ◌≤◌, ◌<◌, suc}
-use Rattle.listing.specs.Text.{inserted, Written}
+use mathlib.Core.List.{List, [], ◌++◌, append_assoc, append-nil}
+use mathlib.Core.Path.{◌≡◌, sym, ap, ◌∙◌}
+use Prim.Native.Nat.{ℕ, ◌+◌, ◌≤◌}
+use Rattle.listing.specs.Text.{inserted, Written, Put}
+use Rattle.listing.specs.declared.text.Text.{Text}
 
 pub inserted_none : (out : List ℕ) (at : ℕ) → inserted out at [] ≡ out
 unfolding inserted
 inserted_none out at = rw (add-zero at, append-nil (take at out)) (take-append-drop at out)
-
-pub inserted_one : (out : List ℕ) (at x : ℕ) → at < length out → set out at x ≡ inserted out at (x ∷ [])
-unfolding inserted
-inserted_one out at x h = rw (add-one at, append_assoc (take at out) (x ∷ []) (drop (suc at) out)) (set_split out at x h)
 
 pub inserted_more : (out : List ℕ) (at : ℕ) (a b : List ℕ) → at ≤ length out
     → inserted (inserted out at a) (at + length a) b ≡ inserted out at (a ++ b)
@@ -39,6 +35,7 @@ written_more {out} {out1} {out2} {a} {b} {at} h x y =
       bytes = y.bytes ∙ rw (x.bytes, x.end) (inserted_more out at a b h);
       end = y.end ∙ rw (x.end, length-append a b) (omega arith);
       fits = simp length-append (omega (arith, x.fits, y.fits));
+      kept = y.kept ∙ x.kept;
     }
 
 -- the rest of a text after a piece of it
@@ -47,11 +44,17 @@ pub goes_on : {out out1 a : List ℕ} {k k1 m : ℕ} (rest T : List ℕ) (N : �
 goes_on {out} {out1} {a} {k} rest T N h x e l =
     (rw (x.bytes, x.end) (inserted_more out k a rest h ∙ e), rw x.end (omega (arith, length-append a rest)))
 
--- one byte is a text
-pub written_one : (out : List ℕ) (at x : ℕ) → at < length out → Written out at (x ∷ []) 1 (set out at x) (at + 1)
-written_one out at x h = record { bytes = inserted_one out at x h; end = refl; fits = omega arith }
-
 pub written_end : {out out1 : List ℕ} {at most r : ℕ} (text : List ℕ) → inserted out1 r [] ≡ inserted out at text → r + 0 ≡ at + length text → r ≤ at + most
-    → Written out at text most out1 r
-written_end {out} {out1} {at} {most} {r} text e l f =
-    record { bytes = sym (inserted_none out1 r) ∙ e; end = omega arith; fits = omega arith }
+    → length out1 ≡ length out → Written out at text most out1 r
+written_end {out} {out1} {at} {most} {r} text e l f k =
+    record { bytes = sym (inserted_none out1 r) ∙ e; end = omega arith; fits = omega arith; kept = k }
+
+-- the same of a text that holds its buffer
+pub put_more : {a b c : Text} {t u : List ℕ} {m n : ℕ} → a.len ≤ length a.out.now → Put a t m b → Put b u n c → Put a (t ++ u) (m + n) c
+put_more h x y =
+    record { same_reference = y.same_reference ∙ x.same_reference; written = written_more h x.written y.written }
+
+pub put_within : {a b : Text} {t : List ℕ} {m n : ℕ} → length t ≤ n → Put a t m b → Put a t n b
+put_within h x =
+    let w = x.written in
+    record { same_reference = x.same_reference; written = record { bytes = w.bytes; end = w.end; fits = h; kept = w.kept } }

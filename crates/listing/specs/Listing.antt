@@ -1,10 +1,8 @@
 -- 01, One listing in full: "an image of up to 1,024 bytes, base 0, entry 0, with 512 places and 1,024 records".
-use Rattle.std.specs.Prelude.{ℕ, zero, suc, ◌+◌, ◌*◌, ◌≤◌, ◌≡◌, List, [], ◌∷◌, ◌++◌, ltb, length, take}
+use Rattle.std.specs.Prelude.{Ok, Err, ℕ, zero, suc, ◌+◌, ◌*◌, ◌≤◌, ◌≡◌, List, [], ◌∷◌, ◌++◌, ltb, length}
 use Rattle.numbers.specs.Choice.{pick}
 use Rattle.numbers.specs.Number.{number_at}
-use Rattle.model.specs.declared.Answer.{Answer}
-use Rattle.model.specs.declared.Answer.TheVariants.{Accepted, ImageLength, Base, Entry, Forbidden, NoRoom, RecordsShort}
-use Rattle.model.specs.Translation.{Handed, answer_numbers, translation}
+use Rattle.model.specs.Translation.{Answer, Handed, refusal_numbers, translation}
 use Rattle.listing.specs.Text.{line_of, inserted}
 
 -- "Its output opens with this line of names: place number, source address, next, kind, first record."
@@ -45,13 +43,8 @@ unfoldable pub refusal_text : List ℕ → List ℕ
 refusal_text values = refusal_names ++ line_of values
 
 unfoldable pub answer_text : Answer → List ℕ → List ℕ → List ℕ
-answer_text (Accepted n m) places records = tables places n records m
-answer_text (ImageLength n) places records = refusal_text (take 2 (answer_numbers (ImageLength n)))
-answer_text (Base a) places records = refusal_text (take 2 (answer_numbers (Base a)))
-answer_text (Entry k) places records = refusal_text (take 2 (answer_numbers (Entry k)))
-answer_text (Forbidden a) places records = refusal_text (take 2 (answer_numbers (Forbidden a)))
-answer_text (NoRoom a) places records = refusal_text (take 2 (answer_numbers (NoRoom a)))
-answer_text (RecordsShort n) places records = refusal_text (take 2 (answer_numbers (RecordsShort n)))
+answer_text (Ok c) places records = tables places c.places records c.records
+answer_text (Err e) places records = refusal_text (refusal_numbers e)
 
 abbrev pub listed : Handed → List ℕ
 listed h = answer_text h.answer h.places h.records

@@ -4,92 +4,89 @@
 ghost use Rattle.std.specs.Prelude.{◌≡◌, ◌+◌, ◌*◌, ◌≤◌, [], ◌∷◌, length};
 ghost use Rattle.numbers.specs.Number.{number_at};
 ghost use Rattle.translator.specs.Handing.{places_counted, records_counted};
-ghost use Rattle.listing.specs.Text.{Written};
+ghost use Rattle.listing.specs.Text.{Put};
 ghost use Rattle.listing.specs.Listing.{place_lines, record_lines, tables, refusal_text, answer_text, Listed};
 
 use model::Answer;
-use text::{put_bytes, put_line};
+use text::Text;
 
 mod text;
+
+// The most bytes of an image that is listed.
+const LONGEST: usize = 1024;
 
 fn number(bytes: &[u8], at: usize) -> u64
     requires { at + 4 ≤ length bytes.now }
     ensures { result ≡ number_at bytes.now at }
 {
-    numbers::read_number(bytes, at) as u64
+    u64::from(numbers::read_number(bytes, at))
 }
 
-// Puts a line for each of the first places of a table.
-fn put_places(out: &mut [u8], at: usize, places: &[u8], count: usize) -> usize
-    requires { (16 * count ≤ length places.now) × (at + 105 * count ≤ length out.old) }
-    ensures { Written out.old at (place_lines places.now count 0) (105 * count) out.new result }
+// Puts a line for each of the first places of a table. (The count stands beside the table, which may have more rows: `place_lines` counts them.)
+fn put_places(text: &mut Text, places: &[u8], count: usize)
+    requires { (16 * count ≤ length places.now) × (text.old.len + 105 * count ≤ length text.old.out.now) }
+    ensures { Put text.old (place_lines places.now count 0) (105 * count) text.new }
 {
-    let mut k = at;
-    let mut i: usize = 0;
-    while i < count {
+    for i in 0..count {
         let p = number(places, 16 * i);
         let n = number(places, 16 * i + 4);
         let kind = number(places, 16 * i + 8);
         let first = number(places, 16 * i + 12);
-        let row = [i as u64, p, n, kind, first];
-        k = put_line(out, k, &row);
-        i += 1;
+        text.put_line(&[i as u64, p, n, kind, first]);
     }
-    k
 }
 
-// Puts a line for each of the first records of a list.
-fn put_records(out: &mut [u8], at: usize, records: &[u8], count: usize) -> usize
-    requires { (12 * count ≤ length records.now) × (at + 63 * count ≤ length out.old) }
-    ensures { Written out.old at (record_lines records.now count 0) (63 * count) out.new result }
+// Puts a line for each of the first records of a list. (One function for both, over a closure from i to an array of N numbers, was tried:
+// a bound `Fn` that names a const parameter gets no proof yet. A trait for rows of either width is longer than both loops.)
+fn put_records(text: &mut Text, records: &[u8], count: usize)
+    requires { (12 * count ≤ length records.now) × (text.old.len + 63 * count ≤ length text.old.out.now) }
+    ensures { Put text.old (record_lines records.now count 0) (63 * count) text.new }
 {
-    let mut k = at;
-    let mut i: usize = 0;
-    while i < count {
+    for i in 0..count {
         let kind = number(records, 12 * i);
         let first = number(records, 12 * i + 4);
         let second = number(records, 12 * i + 8);
-        let row = [kind, first, second];
-        k = put_line(out, k, &row);
-        i += 1;
+        text.put_line(&[kind, first, second]);
     }
-    k
 }
 
 // Puts n places and m records, each under their names.
-fn put_tables(out: &mut [u8], places: &[u8], n: usize, records: &[u8], m: usize) -> usize
-    requires { (16 * n ≤ length places.now) × (12 * m ≤ length records.now) × (49 + 105 * n + 63 * m ≤ length out.old) }
-    ensures { Written out.old 0 (tables places.now n records.now m) (49 + 105 * n + 63 * m) out.new result }
+fn put_tables(text: &mut Text, places: &[u8], n: usize, records: &[u8], m: usize)
+    requires { (16 * n ≤ length places.now) × (12 * m ≤ length records.now) × (text.old.len + 49 + 105 * n + 63 * m ≤ length text.old.out.now) }
+    ensures { Put text.old (tables places.now n records.now m) (49 + 105 * n + 63 * m) text.new }
 {
-    let a = put_bytes(out, 0, b"place address next kind record\n");
-    let b = put_places(out, a, places, n);
-    let c = put_bytes(out, b, b"kind first second\n");
-    put_records(out, c, records, m)
+    text.put_bytes(b"place address next kind record\n");
+    put_places(text, places, n);
+    text.put_bytes(b"kind first second\n");
+    put_records(text, records, m);
 }
 
 // Puts a refusal's number and its value under their names.
-fn put_refusal(out: &mut [u8], number: u64, detail: u64) -> usize
-    requires { 57 ≤ length out.old }
-    ensures { Written out.old 0 (refusal_text (number ∷ detail ∷ [])) 57 out.new result }
+fn put_refusal(text: &mut Text, number: u64, detail: u64)
+    requires { text.old.len + 57 ≤ length text.old.out.now }
+    ensures { Put text.old (refusal_text (number ∷ detail ∷ [])) 57 text.new }
 {
-    let a = put_bytes(out, 0, b"refused detail\n");
-    let row = [number, detail];
-    put_line(out, a, &row)
+    text.put_bytes(b"refused detail\n");
+    text.put_line(&[number, detail]);
 }
 
 // Puts what a translation answered and left in its buffers.
-fn put_answer(out: &mut [u8], a: Answer, places: &[u8], records: &[u8]) -> usize
-    requires { (16 * places_counted a ≤ length places.now) × (12 * records_counted a ≤ length records.now) × (length places.now ≤ 8192) × (length records.now ≤ 12288) × (131072 ≤ length out.old) }
-    ensures { Written out.old 0 (answer_text a places.now records.now) 131072 out.new result }
+fn put_answer(text: &mut Text, answer: Answer, places: &[u8], records: &[u8])
+    requires { (16 * places_counted answer ≤ length places.now) × (12 * records_counted answer ≤ length records.now) × (length places.now ≤ 8192) × (length records.now ≤ 12288) × (text.old.len + 131072 ≤ length text.old.out.now) }
+    ensures { Put text.old (answer_text answer places.now records.now) 131072 text.new }
 {
-    match a {
-        Answer::Accepted(n, m) => put_tables(out, places, n as usize, records, m as usize),
-        Answer::ImageLength(n) => put_refusal(out, 1, n),
-        Answer::Base(b) => put_refusal(out, 2, b as u64),
-        Answer::Entry(k) => put_refusal(out, 3, k as u64),
-        Answer::Forbidden(p) => put_refusal(out, 4, p as u64),
-        Answer::NoRoom(p) => put_refusal(out, 5, p as u64),
-        Answer::RecordsShort(n) => put_refusal(out, 6, n as u64),
+    match answer {
+        Ok(counts) => put_tables(
+            text,
+            places,
+            counts.places as usize,
+            records,
+            counts.records as usize,
+        ),
+        Err(refusal) => {
+            let (number, value) = refusal.numbers();
+            put_refusal(text, u64::from(number), value)
+        }
     }
 }
 
@@ -97,12 +94,15 @@ fn put_answer(out: &mut [u8], a: Answer, places: &[u8], records: &[u8]) -> usize
 pub fn list(bytes: &[u8], out: &mut [u8; 131072]) -> usize
     ensures { Listed bytes.now out.old out.new result }
 {
-    if 1024 < bytes.len() {
-        return put_refusal(out, 1, 1025);
+    let mut text = Text::new(out);
+    if LONGEST < bytes.len() {
+        put_refusal(&mut text, 1, 1025);
+        return text.len;
     }
     let entry = [0u8; 4];
     let mut places = [0u8; 8192];
     let mut records = [0u8; 12288];
-    let a = translator::translate(bytes, 0, &entry, &mut places, &mut records);
-    put_answer(out, a, &places, &records)
+    let answer = translator::translate(bytes, 0, &entry, &mut places, &mut records);
+    put_answer(&mut text, answer, &places, &records);
+    text.len
 }

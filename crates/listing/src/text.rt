@@ -1,75 +1,60 @@
-// Text in a buffer that the caller lends: bytes, decimal numbers, lines of numbers.
-ghost use Rattle.std.specs.Prelude.{◌≡◌, ◌+◌, ◌*◌, ◌≤◌, ◌<◌, length, drop};
-ghost use Rattle.listing.specs.Text.{decimal, line_of, separator, Written};
+// Text in a buffer that is lent: bytes, decimal numbers, lines of numbers.
+ghost use Rattle.std.specs.Prelude.{◌≡◌, ◌+◌, ◌*◌, ◌≤◌, ◌<◌, ◌^◌, length};
+ghost use Rattle.listing.specs.Text.{decimal, line_of, separator, Put};
 
-// Puts bytes at a position, and answers the position past them.
-pub fn put_bytes(out: &mut [u8], at: usize, bytes: &[u8]) -> usize
-    requires { at + length bytes.now ≤ length out.old }
-    ensures { Written out.old at bytes.now (length bytes.now) out.new result }
-{
-    let mut i: usize = 0;
-    while i < bytes.len() {
-        out[at + i] = bytes[i];
-        i += 1;
-    }
-    at + bytes.len()
-}
-
-fn digit(d: u64) -> u8
-    requires { d < 10 }
-    ensures { result ≡ 48 + d }
-{
-    48 + d as u8
-}
-
-// Puts the decimal digits of a number at the end of a text of 20 bytes, and answers where they start.
-fn put_digits(v: u64, text: &mut [u8]) -> usize
-    requires { length text.old ≡ 20 }
-    ensures { (result < 20) × (drop result text.new ≡ decimal v) }
-{
-    let mut i: usize = 19;
-    let mut rest = v;
-    while 10 <= rest {
-        text[i] = digit(rest % 10);
-        rest /= 10;
-        i -= 1;
-    }
-    text[i] = digit(rest);
-    i
-}
-
-// Puts a number in decimal digits.
-fn put_number(out: &mut [u8], at: usize, v: u64) -> usize
-    requires { at + 20 ≤ length out.old }
-    ensures { Written out.old at (decimal v) 20 out.new result }
-{
-    let mut text = [0u8; 20];
-    let i = put_digits(v, &mut text);
-    put_bytes(out, at, &text[i..])
+// A buffer with the text that was put so far, at its start.
+#[derive(Drop)]
+pub struct Text<'a> {
+    pub out: &'a mut [u8],
+    pub len: usize,
 }
 
 // What follows a number: a space before another, else the line's end.
+#[tactic(auto, unfolding(crate::specs::Text::separator))]
 fn separator(more: bool) -> u8
     ensures { result ≡ separator more }
 {
-    if more {
-        return b' ';
-    }
-    b'\n'
+    if more { b' ' } else { b'\n' }
 }
 
-// Puts a line of numbers.
-pub fn put_line(out: &mut [u8], at: usize, list: &[u64]) -> usize
-    requires { at + 21 * length list.now ≤ length out.old }
-    ensures { Written out.old at (line_of list.now) (21 * length list.now) out.new result }
-{
-    let mut k = at;
-    let mut j: usize = 0;
-    while j < list.len() {
-        k = put_number(out, k, list[j]);
-        j += 1;
-        out[k] = separator(j < list.len());
-        k += 1;
+impl<'a> Text<'a> {
+    pub fn new(out: &'a mut [u8]) -> Text<'a>
+        ensures same_reference { result.out.ghost_name ≡ out.entry.ghost_name }
+        ensures bytes { result.out.now ≡ out.old }
+        ensures empty { result.len ≡ 0 }
+    {
+        Text { out, len: 0 }
     }
-    k
+
+    // Puts bytes.
+    #[tactic(auto, unfolding(crate::specs::Text::inserted))]
+    pub fn put_bytes(&mut self, bytes: &[u8])
+        requires { self.old.len + length bytes.now ≤ length self.old.out.now }
+        ensures { Put self.old bytes.now (length bytes.now) self.new }
+    {
+        let end = self.len + bytes.len();
+        self.out[self.len..end].copy_from_slice(bytes);
+        self.len = end;
+    }
+
+    // Puts a number in decimal digits.
+    #[tactic(auto, using(crate::proofs::Decimal::decimal_as_printed, crate::proofs::Writing::put_within))]
+    fn put_number(&mut self, v: u64)
+        requires { self.old.len + 20 ≤ length self.old.out.now }
+        ensures { Put self.old (decimal v) 20 self.new }
+    {
+        let mut buffer = itoa::Buffer::new();
+        self.put_bytes(buffer.format(v).as_bytes());
+    }
+
+    // Puts a line of numbers.
+    pub fn put_line(&mut self, numbers: &[u64])
+        requires { self.old.len + 21 * length numbers.now ≤ length self.old.out.now }
+        ensures { Put self.old (line_of numbers.now) (21 * length numbers.now) self.new }
+    {
+        for (j, v) in numbers.iter().enumerate() {
+            self.put_number(*v);
+            self.put_bytes(&[separator(j + 1 < numbers.len())]);
+        }
+    }
 }

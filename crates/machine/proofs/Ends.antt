@@ -1,32 +1,15 @@
--- Laws of ends: the arms that a `_` stands for, and what is made inside a larger state.
-use Rattle.machine.specs.declared.End.TheVariants.{Going, TrapTaken, Outside, IllegalWord, Misaligned, Unfit, NoPlace, BadRecord, TooManySaves, TooManyRestores}
+-- Laws of ends: the numbers of an end, an end that is passed on, and what is made inside a larger state.
+use Rattle.std.specs.Prelude.{Result, Ok, Err, IsErrAnd}
 use Rattle.machine.specs.declared.End.{End}
-use Rattle.machine.specs.Ends.{ending_from, is_going, within, settle, Ending, Next, ending, go, halt, state, ending_of}
-use denote.Enum.Declared.{tag_of}
-use Rattle.machine.specs.contracts.End.{the_type as an-end}
-use types.Run.{OneOf, miss}
+use Rattle.machine.specs.declared.End.TheVariants.{TrapTaken, Outside, IllegalWord, Misaligned, Unfit, NoPlace, BadRecord, TooManySaves, TooManyRestores}
+use Rattle.machine.specs.Ends.{ending_of, answered, ending_from, within, settle, Ending, Next, ending, go, halt, state}
 use borrow.Author.Tests.{eqb-false, lt-leb}
 use Rattle.numbers.specs.Choice.{pick}
 use lib.Dec.{eqb, leb}
 use native.Mathlib.Omega.{arith}
-use mathlib.Core.List.{[], ◌∷◌}
-use mathlib.Core.Bool.{Bool, false, true, false≢true}
+use mathlib.Core.Bool.{Bool, false, true}
 use mathlib.Core.Path.{◌≡◌, refl}
 use Prim.Native.Nat.{ℕ, ◌+◌, ◌≤◌}
-
--- the numbers are those of the variants, in the order of the enum
-pub ended : (e : End) → OneOf (1 ∷ 2 ∷ 3 ∷ 4 ∷ 5 ∷ 6 ∷ 7 ∷ 8 ∷ 9 ∷ []) (tag_of an-end e) → false ≡ is_going e
-unfolding is_going
-ended Going k = absurd (miss (1 ∷ 2 ∷ 3 ∷ 4 ∷ 5 ∷ 6 ∷ 7 ∷ 8 ∷ 9 ∷ []) 0 tt k)
-ended (TrapTaken v) k = refl
-ended (Outside v) k = refl
-ended (IllegalWord v) k = refl
-ended (Misaligned v) k = refl
-ended (Unfit v) k = refl
-ended (NoPlace v) k = refl
-ended (BadRecord v) k = refl
-ended (TooManySaves v) k = refl
-ended (TooManyRestores v) k = refl
 
 past : (a n : ℕ) → a ≤ n → (n ≡ a → ⊥) → (n ≡ a + 1 → ⊥) → (n ≡ a + 2 → ⊥) → a + 3 ≤ n
 past a n l p q r = omega arith
@@ -53,45 +36,24 @@ settle_within f a a' e (go b) h = moved f a' b e (ending 0 0) h
     moved f a b e d h = cc
 settle_within f a a' e (halt d) h = cc
 
--- an end is going exactly where its number is 0
-pub going_of : (e : End) → ending_of e ≡ ending 0 0 → is_going e ≡ true
-unfolding ending_of is_going
-going_of Going h = refl
-going_of (TrapTaken v) h = let z : ◌≡◌ {A = ℕ} 0 1 = cc in absurd (omega arith)
-going_of (Outside v) h = let z : ◌≡◌ {A = ℕ} 0 2 = cc in absurd (omega arith)
-going_of (IllegalWord v) h = let z : ◌≡◌ {A = ℕ} 0 3 = cc in absurd (omega arith)
-going_of (Misaligned v) h = let z : ◌≡◌ {A = ℕ} 0 4 = cc in absurd (omega arith)
-going_of (Unfit v) h = let z : ◌≡◌ {A = ℕ} 0 5 = cc in absurd (omega arith)
-going_of (NoPlace v) h = let z : ◌≡◌ {A = ℕ} 0 6 = cc in absurd (omega arith)
-going_of (BadRecord v) h = let z : ◌≡◌ {A = ℕ} 0 7 = cc in absurd (omega arith)
-going_of (TooManySaves v) h = let z : ◌≡◌ {A = ℕ} 0 8 = cc in absurd (omega arith)
-going_of (TooManyRestores v) h = let z : ◌≡◌ {A = ℕ} 0 9 = cc in absurd (omega arith)
+-- an end is none of a run that is still going
+pub not_going : (e : End) → ending_of e ≡ ending 0 0 → ⊥
+unfolding ending_of
+not_going (TrapTaken v) h = let z : ◌≡◌ {A = ℕ} 0 1 = cc in omega arith
+not_going (Outside v) h = let z : ◌≡◌ {A = ℕ} 0 2 = cc in omega arith
+not_going (IllegalWord v) h = let z : ◌≡◌ {A = ℕ} 0 3 = cc in omega arith
+not_going (Misaligned v) h = let z : ◌≡◌ {A = ℕ} 0 4 = cc in omega arith
+not_going (Unfit v) h = let z : ◌≡◌ {A = ℕ} 0 5 = cc in omega arith
+not_going (NoPlace v) h = let z : ◌≡◌ {A = ℕ} 0 6 = cc in omega arith
+not_going (BadRecord v) h = let z : ◌≡◌ {A = ℕ} 0 7 = cc in omega arith
+not_going (TooManySaves v) h = let z : ◌≡◌ {A = ℕ} 0 8 = cc in omega arith
+not_going (TooManyRestores v) h = let z : ◌≡◌ {A = ℕ} 0 9 = cc in omega arith
 
-pub over_of : (e : End) (n v : ℕ) → ending_of e ≡ ending n v → 1 ≤ n → is_going e ≡ false
-unfolding ending_of is_going
-over_of Going n v h l = let z : n ≡ 0 = cc in absurd (omega arith)
-over_of (TrapTaken w) n v h l = refl
-over_of (Outside w) n v h l = refl
-over_of (IllegalWord w) n v h l = refl
-over_of (Misaligned w) n v h l = refl
-over_of (Unfit w) n v h l = refl
-over_of (NoPlace w) n v h l = refl
-over_of (BadRecord w) n v h l = refl
-over_of (TooManySaves w) n v h l = refl
-over_of (TooManyRestores w) n v h l = refl
-
-pub going_is : (e : End) → is_going e ≡ true → ending_of e ≡ ending 0 0
-unfolding ending_of is_going
-going_is Going h = refl
-going_is (TrapTaken v) h = absurd (false≢true h)
-going_is (Outside v) h = absurd (false≢true h)
-going_is (IllegalWord v) h = absurd (false≢true h)
-going_is (Misaligned v) h = absurd (false≢true h)
-going_is (Unfit v) h = absurd (false≢true h)
-going_is (NoPlace v) h = absurd (false≢true h)
-going_is (BadRecord v) h = absurd (false≢true h)
-going_is (TooManySaves v) h = absurd (false≢true h)
-going_is (TooManyRestores v) h = absurd (false≢true h)
+-- an end that a `?` passes on
+pub passed_on : {A S : Type 0} (on : A → S) (s : S) (e : End) (r : Result A End) → IsErrAnd r (λ d. d ≡ e) → answered on s r ≡ state s (ending_of e)
+unfolding answered
+passed_on on s e (Ok a) h = absurd h
+passed_on on s e (Err d) h = rw h
 
 -- what goes on, or ends as a word may end a run: with any end but 6
 abbrev pub RunEnd : Ending → Type 0

@@ -1,10 +1,9 @@
 // What both cores share: the register file, flags, the two counters, and how a run ended.
 #![tactic(auto)]
 
-ghost use Rattle.std.specs.Prelude.{◌≡◌, ◌<◌};
+ghost use Rattle.std.specs.Prelude.{◌≡◌};
 ghost use Rattle.numbers.specs.Number.{plus};
-ghost use Rattle.words.specs.Conditions.{bit_of};
-ghost use Rattle.machine.specs.Ends.{ending, ending_of, ending_from, is_going};
+ghost use Rattle.machine.specs.Ends.{ending, standing_of, ending_from};
 
 pub mod registers;
 
@@ -12,18 +11,20 @@ pub mod registers;
 #[derive(Clone, Copy)]
 pub struct SourcePc(pub u32);
 
-// The address so many bytes further.
-pub fn further(p: SourcePc, bytes: u32) -> SourcePc
-    ensures { result.0 ≡ plus p.0 bytes }
-{
-    SourcePc(numbers::add(p.0, bytes))
+impl SourcePc {
+    // The address so many bytes further.
+    pub fn further(self, bytes: u32) -> SourcePc
+        ensures { result.0 ≡ plus self.0 bytes }
+    {
+        SourcePc(numbers::add(self.0, bytes))
+    }
 }
 
 // A record's number. It is never read as a source address.
 #[derive(Clone, Copy)]
 pub struct TargetPc(pub u32);
 
-// The flags N, Z, V and C as one number, 8N + 4Z + 2V + C.
+// The flags N, Z, V and C as one number, 8N + 4Z + 2V + C, as C has them in a state.
 #[derive(Clone, Copy)]
 pub struct Flags {
     pub nzvc: u32,
@@ -33,10 +34,9 @@ impl Flags {
     pub const CLEAR: Flags = Flags { nzvc: 0 };
 }
 
-// How a run ended, with what stands beside it: a counter, or a number that need not be one.
+// How a run ended, with what stands beside it: a counter, or a number that need not be one. A run that is still going has none.
 #[derive(Clone, Copy)]
 pub enum End {
-    Going,
     // (rs1 + operand) modulo 128
     TrapTaken(u32),
     Outside(SourcePc),
@@ -52,16 +52,7 @@ pub enum End {
     TooManyRestores(u32),
 }
 
-pub fn is_going(e: End) -> bool
-    ensures { result ≡ is_going e }
-{
-    match e {
-        End::Going => true,
-        _ => false,
-    }
-}
-
-// An end's number, and the number beside it.
+// An end's number, and the number beside it; both 0 of a run that is still going. So C has them.
 #[repr(C)]
 #[derive(Clone, Copy)]
 pub struct Ended {
@@ -69,56 +60,45 @@ pub struct Ended {
     pub number: u32,
 }
 
-pub fn numbers_of(e: End) -> Ended
-    ensures { ending result.end result.number ≡ ending_of e }
-{
-    match e {
-        End::Going => Ended { end: 0, number: 0 },
-        End::TrapTaken(v) => Ended { end: 1, number: v },
-        End::Outside(p) => Ended {
-            end: 2,
-            number: p.0,
-        },
-        End::IllegalWord(p) => Ended {
-            end: 3,
-            number: p.0,
-        },
-        End::Misaligned(v) => Ended { end: 4, number: v },
-        End::Unfit(v) => Ended { end: 5, number: v },
-        End::NoPlace(p) => Ended {
-            end: 6,
-            number: p.0,
-        },
-        End::BadRecord(r) => Ended {
-            end: 7,
-            number: r.0,
-        },
-        End::TooManySaves(w) => Ended { end: 8, number: w },
-        End::TooManyRestores(w) => Ended { end: 9, number: w },
+impl From<Option<End>> for Ended {
+    ghost from_gives = { λ e r. ending r.end r.number ≡ standing_of e };
+
+    #[tactic(auto, unfolding(crate::specs::Ends::standing_of, crate::specs::Ends::ending_of))]
+    fn from(e: Option<End>) -> Ended {
+        let (end, number) = match e {
+            None => (0, 0),
+            Some(End::TrapTaken(v)) => (1, v),
+            Some(End::Outside(p)) => (2, p.0),
+            Some(End::IllegalWord(p)) => (3, p.0),
+            Some(End::Misaligned(v)) => (4, v),
+            Some(End::Unfit(v)) => (5, v),
+            Some(End::NoPlace(p)) => (6, p.0),
+            Some(End::BadRecord(r)) => (7, r.0),
+            Some(End::TooManySaves(w)) => (8, w),
+            Some(End::TooManyRestores(w)) => (9, w),
+        };
+        Ended { end, number }
     }
 }
 
 // The end of two numbers in a state's bytes: any number but 1 to 9 counts as still going.
-pub fn end_from(end: u32, v: u32) -> End
-    ensures { ending_of result ≡ ending_from end v }
-{
-    match end {
-        1 => End::TrapTaken(v),
-        2 => End::Outside(SourcePc(v)),
-        3 => End::IllegalWord(SourcePc(v)),
-        4 => End::Misaligned(v),
-        5 => End::Unfit(v),
-        6 => End::NoPlace(SourcePc(v)),
-        7 => End::BadRecord(TargetPc(v)),
-        8 => End::TooManySaves(v),
-        9 => End::TooManyRestores(v),
-        _ => End::Going,
-    }
-}
+impl From<Ended> for Option<End> {
+    ghost from_gives = { λ r e. standing_of e ≡ ending_from r.end r.number };
 
-// A test as a number.
-pub fn bit(b: bool) -> u32
-    ensures { (result ≡ bit_of b) × (result < 2) }
-{
-    if b { 1 } else { 0 }
+    #[tactic(auto, using(crate::proofs::Ends::no_end), unfolding(crate::specs::Ends::standing_of, crate::specs::Ends::ending_of, crate::specs::Ends::ending_from))]
+    fn from(r: Ended) -> Option<End> {
+        let v = r.number;
+        match r.end {
+            1 => Some(End::TrapTaken(v)),
+            2 => Some(End::Outside(SourcePc(v))),
+            3 => Some(End::IllegalWord(SourcePc(v))),
+            4 => Some(End::Misaligned(v)),
+            5 => Some(End::Unfit(v)),
+            6 => Some(End::NoPlace(SourcePc(v))),
+            7 => Some(End::BadRecord(TargetPc(v))),
+            8 => Some(End::TooManySaves(v)),
+            9 => Some(End::TooManyRestores(v)),
+            _ => None,
+        }
+    }
 }

@@ -5,11 +5,13 @@ ghost use Rattle.machine.specs.Registers.{register_of, put_register, y_of, put_y
 
 use words::Operand;
 
-// How many numbers the file has, and the file: registers 0 to 31, Y, the nesting, eight times sixteen numbers of windows.
+// How many numbers the file has, and the file: registers 0 to 31, Y, the nesting, eight times sixteen numbers of windows. It stays a plain array,
+// read by functions and not by methods: in a struct each definition of specs/ that takes its list would take `.numbers` of it, and be no plainer.
 pub const FILE: usize = 162;
 
 pub type File = [u32; FILE];
 
+#[tactic(auto, unfolding(crate::specs::Registers::register_of))]
 fn reg_at(regs: &File, i: usize) -> u32
     ensures { result ≡ register_of regs.now i }
 {
@@ -22,6 +24,7 @@ pub fn reg(regs: &File, i: u32) -> u32
     reg_at(regs, i as usize)
 }
 
+#[tactic(auto, unfolding(crate::specs::Registers::put_register))]
 pub fn put(regs: &mut File, i: u32, v: u32)
     ensures { regs.new ≡ put_register regs.old i v }
 {
@@ -30,18 +33,21 @@ pub fn put(regs: &mut File, i: u32, v: u32)
     regs[0] = 0;
 }
 
+#[tactic(auto, unfolding(crate::specs::Registers::y_of))]
 pub fn y(regs: &File) -> u32
     ensures { result ≡ y_of regs.now }
 {
     regs[32]
 }
 
+#[tactic(auto, unfolding(crate::specs::Registers::put_y))]
 pub fn put_y(regs: &mut File, v: u32)
     ensures { regs.new ≡ put_y regs.old v }
 {
     regs[32] = v;
 }
 
+#[tactic(auto, unfolding(crate::specs::Registers::value_of))]
 pub fn value(regs: &File, x: Operand) -> u32
     ensures { result ≡ value_of regs.now x }
 {
@@ -52,6 +58,7 @@ pub fn value(regs: &File, x: Operand) -> u32
 }
 
 // The sum of a register and a second operand: a data address, or where a jmpl goes.
+#[tactic(auto, unfolding(crate::specs::Registers::address_of))]
 pub fn address(regs: &File, rs1: u32, x: Operand) -> u32
     ensures { result ≡ address_of regs.now rs1 x }
 {

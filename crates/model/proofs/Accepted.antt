@@ -2,7 +2,7 @@
 -- and records.
 use Prim.Native.Nat.{ℕ, suc, ◌*◌, ◌-◌, ◌/◌, ◌%◌, ◌^◌, ◌≤◌, ◌<◌}
 use native.Mathlib.Omega.{arith}
-use mathlib.Core.Path.{◌≡◌, refl, sym, ap, ◌∙◌, subst}
+use mathlib.Core.Path.{◌≡◌, refl, sym, ap, subst}
 use mathlib.Core.Bool.{Bool, true, false, ◌&&◌, not, false≢true}
 use mathlib.Core.List.{List, [], ◌∷◌}
 use mathlib.Core.Option.{none, some}
@@ -10,18 +10,19 @@ use lib.Dec.{eqb, leb}
 use lib.ListN.{length, take, replicate}
 use lib.Seq.{take_at}
 use borrow.Author.Tests.{eqb-true, leb-true, not-false}
+use Rattle.std.specs.Prelude.{Ok, Err}
 use Rattle.numbers.specs.Choice.{pick}
 use Rattle.numbers.specs.Number.{Below, minus, plus, number_at, numbers_of, bytes_of}
 use Rattle.numbers.proofs.Number.{length_bytes}
 use Rattle.numbers.proofs.Bounds.{below_up, number_lt}
 use Rattle.model.specs.declared.Place.{Place}
-use Rattle.model.specs.declared.Answer.{Answer}
-use Rattle.model.specs.declared.Answer.TheVariants.{Accepted, ImageLength, Base, Entry, Forbidden, NoRoom, RecordsShort}
+use Rattle.model.specs.declared.Refusal.{Refusal}
+use Rattle.model.specs.declared.Refusal.TheVariants.{Forbidden, NoRoom, RecordsShort}
 use Rattle.model.specs.OldCore.{in_image, word_in}
 use Rattle.model.specs.Places.{plain, plains}
 use Rattle.model.specs.Walk.{Walked, table, refused, endless, places_of}
 use Rattle.model.specs.Records.{past, Grouping, in_full, rows_from, rows_of, records_of, table_numbers, records_numbers, numbers_in}
-use Rattle.model.specs.Translation.{Handed, bad_length, bad_count, bad_entry, first_bad, place_room, filled, refusal, acceptance, from_walk, translation}
+use Rattle.model.specs.Translation.{Answer, accepted, Handed, bad_length, bad_count, bad_entry, first_bad, place_room, filled, refusal, acceptance, from_walk, translation}
 use Rattle.model.proofs.Members.{AllP}
 use Rattle.model.proofs.Follows.{Aligned}
 use Rattle.model.proofs.Packed.{length_table, length_records}
@@ -67,8 +68,16 @@ length_rows lay f [] = refl
 length_rows lay f (y ∷ ys) = ap suc (length_rows lay (past (lay y ys) f) ys)
 
 -- ---------------------------------------------------------------- acceptance
+abbrev places_of_answer : Answer → ℕ
+places_of_answer (Ok c) = c.places
+places_of_answer (Err e) = 0
+
+abbrev records_of_answer : Answer → ℕ
+records_of_answer (Ok c) = c.records
+records_of_answer (Err e) = 0
+
 module _ (image : List ℕ) (base : ℕ) (entryList : List ℕ) (placesLength recordsLength P R : ℕ) where
-  abbrev Refused : Answer → Handed
+  abbrev Refused : Refusal → Handed
   Refused = refusal placesLength recordsLength
 
   pub record Took (h : Handed) : Type 0 where
@@ -82,19 +91,10 @@ module _ (image : List ℕ) (base : ℕ) (entryList : List ℕ) (placesLength re
     pub table_bytes : take (16 * P) h.places ≡ bytes_of (table_numbers (rows_of (in_full image base) ps))
     pub record_bytes : take (12 * R) h.records ≡ bytes_of (records_numbers (records_of (in_full image base) ps))
 
-  -- an answer that is no acceptance
-  abbrev refuses : Answer → Bool
-  refuses (Accepted p r) = false
-  refuses (ImageLength n) = true
-  refuses (Base a) = true
-  refuses (Entry k) = true
-  refuses (Forbidden a) = true
-  refuses (NoRoom a) = true
-  refuses (RecordsShort n) = true
-
-  refused_no : {A : Type 0} (a : Answer) → refuses a ≡ true → (Refused a).answer ≡ Accepted P R → A
+  -- a refusal is no acceptance
+  refused_no : {A : Type 0} (e : Refusal) → (Refused e).answer ≡ accepted P R → A
   unfolding refusal
-  refused_no a r e = absurd (false≢true (sym (ap refuses e) ∙ r))
+  refused_no e q = absurd (cc)
 
   front : (ns : List ℕ) (size n : ℕ) → n ≡ 4 * length ns → take n (filled ns size) ≡ bytes_of ns
   unfolding filled
@@ -102,12 +102,12 @@ module _ (image : List ℕ) (base : ℕ) (entryList : List ℕ) (placesLength re
 
   accepts : (ps : List Place) → places_of image base (place_room placesLength) (numbers_in entryList) ≡ table ps
       → first_bad base (length image) 0 (numbers_in entryList) ≡ 0 → length (records_of (in_full image base) ps) ≤ recordsLength / 12
-      → (acceptance image base placesLength recordsLength ps).answer ≡ Accepted P R
+      → (acceptance image base placesLength recordsLength ps).answer ≡ accepted P R
       → Took (acceptance image base placesLength recordsLength ps)
   unfolding acceptance rows_of place_room
   accepts ps q g l e =
-      let a : length ps ≡ P = cc in
-      let b : length (records_of (in_full image base) ps) ≡ R = cc in
+      let a : length ps ≡ P = ap places_of_answer e in
+      let b : length (records_of (in_full image base) ps) ≡ R = ap records_of_answer e in
       record {
         ps = ps;
         made = q;
@@ -121,39 +121,39 @@ module _ (image : List ℕ) (base : ℕ) (entryList : List ℕ) (placesLength re
         record_bytes = front (records_numbers (records_of (in_full image base) ps)) recordsLength (12 * R) (omega (arith, length_records (records_of (in_full image base) ps)));
       }
 
-  past_test : (b : Bool) (a : Answer) (h : Handed) → refuses a ≡ true → (b ≡ false → h.answer ≡ Accepted P R → Took h)
-      → (pick b (Refused a) h).answer ≡ Accepted P R → Took (pick b (Refused a) h)
-  past_test true a h r f e = refused_no a r e
-  past_test false a h r f e = f refl e
+  past_test : (b : Bool) (r : Refusal) (h : Handed) → (b ≡ false → h.answer ≡ accepted P R → Took h)
+      → (pick b (Refused r) h).answer ≡ accepted P R → Took (pick b (Refused r) h)
+  past_test true r h f e = refused_no r e
+  past_test false r h f e = f refl e
 
   took_walk : first_bad base (length image) 0 (numbers_in entryList) ≡ 0 → (y : Walked)
       → places_of image base (place_room placesLength) (numbers_in entryList) ≡ y
-      → (from_walk image base placesLength recordsLength y).answer ≡ Accepted P R
+      → (from_walk image base placesLength recordsLength y).answer ≡ accepted P R
       → Took (from_walk image base placesLength recordsLength y)
   unfolding from_walk
-  took_walk g (refused n a) q e = past_test (eqb n 4) (Forbidden a) (Refused (NoRoom a)) refl (λ z. refused_no (NoRoom a) refl) e
-  took_walk g endless q e = refused_no (NoRoom 0) refl e
+  took_walk g (refused n a) q e = past_test (eqb n 4) (Forbidden a) (Refused (NoRoom a)) (λ z. refused_no (NoRoom a)) e
+  took_walk g endless q e = refused_no (NoRoom 0) e
   took_walk g (table ps) q e = go (leb (length (records_of (in_full image base) ps)) (recordsLength / 12)) refl e
     where
-      accepted : Handed
-      accepted = acceptance image base placesLength recordsLength ps
+      taken : Handed
+      taken = acceptance image base placesLength recordsLength ps
 
       short : Handed
       short = Refused (RecordsShort (length (records_of (in_full image base) ps)))
 
-      go : (b : Bool) → leb (length (records_of (in_full image base) ps)) (recordsLength / 12) ≡ b → (pick b accepted short).answer ≡ Accepted P R
-          → Took (pick b accepted short)
+      go : (b : Bool) → leb (length (records_of (in_full image base) ps)) (recordsLength / 12) ≡ b → (pick b taken short).answer ≡ accepted P R
+          → Took (pick b taken short)
       go true l i = accepts ps q g (leb-true _ _ l) i
-      go false l i = refused_no (RecordsShort (length (records_of (in_full image base) ps))) refl i
+      go false l i = refused_no (RecordsShort (length (records_of (in_full image base) ps))) i
 
-  pub took : (translation image base entryList placesLength recordsLength).answer ≡ Accepted P R
+  pub took : (translation image base entryList placesLength recordsLength).answer ≡ accepted P R
       → Took (translation image base entryList placesLength recordsLength)
   unfolding translation
   took e =
       let es = numbers_in entryList in
       let bad = first_bad base (length image) 0 es in
-      past_test (bad_length (length image)) _ _ refl
-      (λ q1. past_test (not (eqb (base % 4) 0)) _ _ refl
-      (λ q2. past_test (bad_count (length es)) _ _ refl
-      (λ q3. past_test (not (eqb bad 0)) _ _ refl
+      past_test (bad_length (length image)) _ _
+      (λ q1. past_test (not (eqb (base % 4) 0)) _ _
+      (λ q2. past_test (bad_count (length es)) _ _
+      (λ q3. past_test (not (eqb bad 0)) _ _
       (λ q4. took_walk (eqb-true bad 0 (not-false (eqb bad 0) q4)) (places_of image base (place_room placesLength) es) refl)))) e

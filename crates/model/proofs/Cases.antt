@@ -1,5 +1,5 @@
 -- The cases hold: one theorem over the rows of the table.
-use Rattle.model.specs.Translation.{answer_numbers, bad_length, bad_count, bad_entry, first_bad, place_room, filled, refusal, acceptance, from_walk, translation}
+use Rattle.model.specs.Translation.{answer_numbers, refusal_numbers, bad_length, bad_count, bad_entry, first_bad, place_room, filled, refusal, acceptance, from_walk, translation}
 use Rattle.model.specs.Walk.{grow, grown, tested, handle, walk, places_of}
 use Rattle.model.specs.Records.{numbers_in, row_at, rows_in, record_of, record_at, records_in, bicc_group, group_of, held_group_of, group_at, held_group_at, group, past, numbered, put, table_numbers, record_numbers, records_numbers, first, rows_from, records_from, rows_of, records_of}
 use Rattle.model.specs.Places.{kind_of, next_of, place_at, same_place, member, which_of, bicc_names, return_names, names, names_at, unimp_in, unimp_behind, followers, idle_bicc, may_be_held, may_be_held_at, allowed, plains}
@@ -68,7 +68,7 @@ places_open = tt
 
 -- records, and what is handed back
 records_open : Unit {0}
-unfolding numbers_in row_at rows_in record_of record_at records_in bicc_group group_of held_group_of group_at held_group_at group past numbered put table_numbers record_numbers records_numbers first rows_from records_from rows_of records_of answer_numbers bad_length bad_count bad_entry first_bad place_room filled refusal acceptance from_walk translation
+unfolding numbers_in row_at rows_in record_of record_at records_in bicc_group group_of held_group_of group_at held_group_at group past numbered put table_numbers record_numbers records_numbers first rows_from records_from rows_of records_of answer_numbers refusal_numbers bad_length bad_count bad_entry first_bad place_room filled refusal acceptance from_walk translation
 records_open = tt
 
 -- the new core

@@ -16,14 +16,13 @@ use Rattle.windows.specs.Windows.{nesting_of, place_of, laid as laidDown, come_i
 use Rattle.effects.specs.Effect.{Machine, machine}
 use Rattle.windows.proofs.Ring.{laid_low, laid_free, laid_own, laid_length, laid_nesting, in_low, in_nesting, in_free}
 use Rattle.model.specs.declared.Place.{Place}
-use Rattle.model.specs.declared.Answer.TheVariants.{Accepted}
 use Rattle.model.specs.Run.{step, run}
 use Rattle.model.specs.OldCore.{old, in_image, old_begun}
 use Rattle.model.specs.Places.{plain, member, Makes}
 use Rattle.model.specs.Walk.{table, places_of}
 use Rattle.model.specs.Records.{in_full, first, rows_of, records_of, rows_in, records_in, numbers_in, table_numbers, records_numbers}
 use Rattle.model.specs.NewCore.{New, new, seek, begun_at, new_begun}
-use Rattle.model.specs.Translation.{Handed, translation, place_room}
+use Rattle.model.specs.Translation.{accepted, Handed, translation, place_room}
 use Rattle.model.specs.Trails.{whole_file, shown_of, Core, Trail, at, trail, entry, entries, closing, opening, later, Unspent, reached, stood, landed}
 use Rattle.model.specs.Cores.{Start, start_machine, old_over, new_over, old_begin, new_begin, steps_for, trail_of, new_trail_at}
 use Rattle.model.specs.Demand3.{Placed, Begins, Complete, Strays, Equal, Claim, Holds, Demand3}
@@ -269,7 +268,7 @@ pub record Laid (image : List ℕ) (base : ℕ) (entryList : List ℕ) (cap : �
 
 pub laid : (image : List ℕ) (base : ℕ) (entryList : List ℕ) (placesLength recordsLength placeCount recordCount : ℕ)
     → Below 256 image → Below 256 entryList → (handed : Handed) → handed ≡ translation image base entryList placesLength recordsLength
-    → handed.answer ≡ Accepted placeCount recordCount
+    → handed.answer ≡ accepted placeCount recordCount
     → (places records : List ℕ) → places ≡ take (16 * placeCount) handed.places → records ≡ take (12 * recordCount) handed.records
     → Laid image base entryList (place_room placesLength) places records
 unfolding place_room

@@ -7,12 +7,12 @@ use mathlib.Core.List.{List, [], ◌∷◌}
 use lib.Dec.{eqb, leb}
 use lib.ListN.{length, get_or}
 use borrow.Author.Tests.{eq-eqb, ne_eqb}
+use Rattle.std.specs.Prelude.{Err}
 use Rattle.numbers.specs.Choice.{pick}
-use Rattle.model.specs.declared.Answer.{Answer}
-use Rattle.model.specs.declared.Answer.TheVariants.{Entry, Forbidden, NoRoom, RecordsShort}
+use Rattle.model.specs.declared.Refusal.TheVariants.{Entry, Forbidden, NoRoom, RecordsShort}
 use Rattle.model.specs.Records.{numbers_in, in_full, records_of}
 use Rattle.model.specs.Walk.{Walked, table, refused, endless, places_of}
-use Rattle.model.specs.Translation.{Handed, answer_numbers, bad_count, bad_entry, first_bad, place_room, refusal, acceptance, from_walk, translation}
+use Rattle.model.specs.Translation.{Answer, Handed, answer_numbers, refusal_numbers, bad_count, bad_entry, first_bad, place_room, refusal, acceptance, from_walk, translation}
 use Rattle.model.specs.FirstBadEntry.{First, NamesFirst, FirstBadEntry}
 
 -- ---------------------------------------------------------------- the position is that of the first bad entry
@@ -64,7 +64,7 @@ module _ (image : List ℕ) (base : ℕ) (entries : List ℕ) (pl rl : ℕ) wher
 
   -- after the walk no answer is 3
   not_third : (w : Walked) → number_of (from_walk image base pl rl w).answer ≡ 3 → ⊥
-  unfolding from_walk refusal acceptance answer_numbers
+  unfolding from_walk refusal acceptance answer_numbers refusal_numbers
   not_third (table ps) = go (leb (length (records_of (in_full image base) ps)) (rl / 12))
     where
       go : (b : Bool) → number_of (pick b (acceptance image base pl rl ps) (refusal pl rl (RecordsShort (length (records_of (in_full image base) ps))))).answer ≡ 3 → ⊥
@@ -84,8 +84,8 @@ module _ (image : List ℕ) (base : ℕ) (entries : List ℕ) (pl rl : ℕ) wher
   abbrev answer : Bool → ℕ → Answer
   answer c p = (pick c (refusal pl rl (Entry 0)) (pick (not (eqb p 0)) (refusal pl rl (Entry p)) walked)).answer
 
-  no_entry : {A : Type 0} (k : ℕ) → walked.answer ≡ Entry k → A
-  unfolding answer_numbers
+  no_entry : {A : Type 0} (k : ℕ) → walked.answer ≡ Err (Entry k) → A
+  unfolding answer_numbers refusal_numbers
   no_entry k e = absurd (not_third (places_of image base (place_room pl) es) (ap number_of e))
 
   names : (c : Bool) (p : ℕ) → bad_count (length es) ≡ c → first_bad base size 0 es ≡ p → NamesFirst base size es (answer c p)
@@ -108,7 +108,7 @@ module _ (image : List ℕ) (base : ℕ) (entries : List ℕ) (pl rl : ℕ) wher
         count = (λ e. let z : ◌≡◌ {A = ℕ} (suc p) 0 = cc in absurd (omega arith), λ e. absurd (false≢true (sym hc ∙ e)));
         entry = λ k. (
           λ e. let z : p ≡ k = cc in (hc, subst (First base size es) z f),
-          λ g. ap Entry (omega (arith, hp, first_named base size 0 es k g.1)),
+          λ g. ap (λ n. Err (Entry n)) (omega (arith, hp, first_named base size 0 es k g.1)),
         );
       })
 

@@ -8,6 +8,7 @@ use mathlib.Core.List.{List, [], ◌∷◌}
 use mathlib.Core.Option.{none, some}
 use lib.Dec.{eqb}
 use lib.ListN.{length, take-append-drop, length-take, take}
+use Rattle.std.specs.Prelude.{Ok, Err}
 use Rattle.numbers.specs.Choice.{pick}
 use Rattle.numbers.specs.Number.{Below, plus, number_at}
 use Rattle.numbers.proofs.Bounds.{plus_lt}
@@ -19,9 +20,8 @@ use Rattle.model.specs.OldCore.{Old, old, old_machine, in_image, old_next, old_b
 use Rattle.model.specs.Places.{plain}
 use Rattle.model.specs.Records.{in_full, first, rows_in}
 use Rattle.model.specs.NewCore.{New, new, new_machine, new_next, seek, begun_at, new_begun}
-use Rattle.model.specs.declared.Answer.{Answer}
-use Rattle.model.specs.declared.Answer.TheVariants.{Accepted, ImageLength, Base, Entry, Forbidden, NoRoom, RecordsShort}
-use Rattle.model.specs.Translation.{answer_numbers, Handed, translation, place_room, Back}
+use Rattle.model.specs.declared.Refusal.TheVariants.{ImageLength, Base, Entry, Forbidden, NoRoom, RecordsShort}
+use Rattle.model.specs.Translation.{Answer, accepted, answer_numbers, refusal_numbers, Handed, translation, place_room, Back}
 use Rattle.model.specs.Trails.{shown_of, Core, shown_at, Unspent}
 use Rattle.model.specs.Cores.{old_mark, old_over, new_mark, new_by_held, new_over, old_begin, new_begin, steps_for, trail_of}
 use Rattle.model.specs.Demand3.{Placed, Complete, Strays, Holds, Demand3}
@@ -264,28 +264,28 @@ module _ (image : List ℕ) (base : ℕ) (entryList : List ℕ) (cap : ℕ) (pla
         }
 
 -- number 0 is acceptance, with the two counts beside it
-accepted_back : (a : Answer) (P R : ℕ) → answer_numbers a ≡ 0 ∷ P ∷ R ∷ [] → a ≡ Accepted P R
-unfolding answer_numbers
-accepted_back (Accepted p r) P R e = let q : p ≡ P = cc in let s : r ≡ R = cc in cc
-accepted_back (ImageLength n) P R e = let z : ◌≡◌ {A = ℕ} 1 0 = cc in absurd (omega arith)
-accepted_back (Base a) P R e = let z : ◌≡◌ {A = ℕ} 2 0 = cc in absurd (omega arith)
-accepted_back (Entry k) P R e = let z : ◌≡◌ {A = ℕ} 3 0 = cc in absurd (omega arith)
-accepted_back (Forbidden a) P R e = let z : ◌≡◌ {A = ℕ} 4 0 = cc in absurd (omega arith)
-accepted_back (NoRoom a) P R e = let z : ◌≡◌ {A = ℕ} 5 0 = cc in absurd (omega arith)
-accepted_back (RecordsShort n) P R e = let z : ◌≡◌ {A = ℕ} 6 0 = cc in absurd (omega arith)
+accepted_back : (a : Answer) (P R : ℕ) → answer_numbers a ≡ 0 ∷ P ∷ R ∷ [] → a ≡ accepted P R
+unfolding answer_numbers refusal_numbers
+accepted_back (Ok c) P R e = let q : P ≡ c.places = cc in let s : R ≡ c.records = cc in rw (q, s)
+accepted_back (Err (ImageLength n)) P R e = let z : ◌≡◌ {A = ℕ} 1 0 = cc in absurd (omega arith)
+accepted_back (Err (Base a)) P R e = let z : ◌≡◌ {A = ℕ} 2 0 = cc in absurd (omega arith)
+accepted_back (Err (Entry k)) P R e = let z : ◌≡◌ {A = ℕ} 3 0 = cc in absurd (omega arith)
+accepted_back (Err (Forbidden a)) P R e = let z : ◌≡◌ {A = ℕ} 4 0 = cc in absurd (omega arith)
+accepted_back (Err (NoRoom a)) P R e = let z : ◌≡◌ {A = ℕ} 5 0 = cc in absurd (omega arith)
+accepted_back (Err (RecordsShort n)) P R e = let z : ◌≡◌ {A = ℕ} 6 0 = cc in absurd (omega arith)
 
 pub interface : Interface
 unfolding Interface Demand3
 interface image base entryList placesLength recordsLength placeCount recordCount table list ib eb call b c bb bd cb cd p q hp hq db k lk places records et er =
     let handed : Handed = translation image base entryList placesLength recordsLength in
     let numbers : answer_numbers handed.answer ≡ 0 ∷ placeCount ∷ recordCount ∷ [] = sym (ap (λ (x : Back). x.numbers) call) in
-    let accepted : handed.answer ≡ Accepted placeCount recordCount = accepted_back handed.answer placeCount recordCount numbers in
+    let answered : handed.answer ≡ accepted placeCount recordCount = accepted_back handed.answer placeCount recordCount numbers in
     let et' : places ≡ take (16 * placeCount) handed.places = et ∙ ap (λ (x : Back). take (16 * placeCount) x.places) call in
     let er' : records ≡ take (12 * recordCount) handed.records = er ∙ ap (λ (x : Back). take (12 * recordCount) x.records) call in
-    let L = laid image base entryList placesLength recordsLength placeCount recordCount ib eb handed refl accepted places records et' er' in
+    let L = laid image base entryList placesLength recordsLength placeCount recordCount ib eb handed refl answered places records et' er' in
     let lp = placed_lt image base entryList (place_room placesLength) places records L p hp in (
       on_bytes image base entryList (place_room placesLength) places records L db b c bb bd cb cd p q lp hq k
-          (demand3 image base entryList placesLength recordsLength placeCount recordCount ib eb handed refl accepted (start_of old_behind p b) (start_of new_behind q c) hp hq
+          (demand3 image base entryList placesLength recordsLength placeCount recordCount ib eb handed refl answered (start_of old_behind p b) (start_of new_behind q c) hp hq
           db k lk places records et' er'),
       old_read image base entryList (place_room placesLength) places records L db b c bb bd cb cd p q lp hq k,
       new_read image base entryList (place_room placesLength) places records L db b c bb bd cb cd p q lp hq k,

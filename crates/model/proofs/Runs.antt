@@ -1,17 +1,16 @@
 -- Laws of runs: a run continued from here is the run from the start.
-use Rattle.machine.specs.declared.End.TheVariants.{Going, TrapTaken, Outside, IllegalWord, Misaligned, Unfit, NoPlace, BadRecord, TooManySaves, TooManyRestores}
+use Rattle.machine.specs.declared.End.TheVariants.{TrapTaken, Outside, IllegalWord, Misaligned, Unfit, NoPlace, BadRecord, TooManySaves, TooManyRestores}
 use Rattle.machine.specs.declared.End.{End}
 use borrow.Author.Tests.{leb-true, leb-false}
 use lib.Seq.{take_all, take_at, drop_at, length-take-le}
 use lib.ListN.{length, take, drop, drop_of_length-le}
 use lib.Dec.{leb}
 use mathlib.Core.List.{List, [], ◌++◌, append-nil}
-use mathlib.Core.Bool.{Bool, true, false, false≢true}
+use mathlib.Core.Bool.{Bool, true, false}
 use Prim.Native.Nat.{ℕ, zero, suc, ◌+◌, ◌-◌, ◌<◌, ◌≤◌, min}
-use mathlib.Core.Path.{◌≡◌, ap, ◌∙◌, refl, sym}
+use mathlib.Core.Path.{◌≡◌, ap, ◌∙◌, refl}
 use native.Mathlib.Omega.{arith}
-use Rattle.machine.specs.Ends.{Next, State, settle, ending_of, is_going, left}
-use Rattle.machine.proofs.Ends.{going_is}
+use Rattle.machine.specs.Ends.{Next, State, state, live, settle, ending_of}
 use Rattle.model.specs.Run.{step, run, data_of, beyond, lent}
 
 -- n − i steps are left of n; one of them is done
@@ -51,27 +50,25 @@ lent_back next count at-data at-end l d n e k h = go (leb (length l) 65536) refl
         rw (q, take_at d (drop 65536 l) 65536 m, drop_at d (drop 65536 l) 65536 m, f)
 
 -- a step on an ended state changes nothing
-pub ended_stays : {S : Type 0} (next : S → Next S) (s : S) (e : End) → is_going e ≡ false → left s e ≡ step next (left s e)
-unfolding step ending_of is_going
-ended_stays next s Going h = absurd (false≢true (sym h))
-ended_stays next s (TrapTaken v) h = refl
-ended_stays next s (Outside v) h = refl
-ended_stays next s (IllegalWord v) h = refl
-ended_stays next s (Misaligned v) h = refl
-ended_stays next s (Unfit v) h = refl
-ended_stays next s (NoPlace v) h = refl
-ended_stays next s (BadRecord v) h = refl
-ended_stays next s (TooManySaves v) h = refl
-ended_stays next s (TooManyRestores v) h = refl
+pub ended_stays : {S : Type 0} (next : S → Next S) (s : S) (e : End) → state s (ending_of e) ≡ step next (state s (ending_of e))
+unfolding step ending_of
+ended_stays next s (TrapTaken v) = refl
+ended_stays next s (Outside v) = refl
+ended_stays next s (IllegalWord v) = refl
+ended_stays next s (Misaligned v) = refl
+ended_stays next s (Unfit v) = refl
+ended_stays next s (NoPlace v) = refl
+ended_stays next s (BadRecord v) = refl
+ended_stays next s (TooManySaves v) = refl
+ended_stays next s (TooManyRestores v) = refl
 
 -- and so the rest of its run
-pub run_ended : {S : Type 0} (next : S → Next S) (n : ℕ) (s : S) (e : End) (z : State S) → is_going e ≡ false → run next n (left s e) ≡ z → left s e ≡ z
+pub run_ended : {S : Type 0} (next : S → Next S) (n : ℕ) (s : S) (e : End) (z : State S) → run next n (state s (ending_of e)) ≡ z → state s (ending_of e) ≡ z
 unfolding run
-run_ended next zero s e z h k = k
-run_ended next (suc n) s e z h k =
-    run_ended next n s e z h (rw (← ended_stays next s e h) at k)
+run_ended next zero s e z k = k
+run_ended next (suc n) s e z k = run_ended next n s e z (rw (← ended_stays next s e) at k)
 
 -- a step on a state that goes on
-pub step_going : {S : Type 0} (next : S → Next S) (s : S) (e : End) → is_going e ≡ true → settle s (next s) ≡ step next (left s e)
+pub step_going : {S : Type 0} (next : S → Next S) (s : S) → settle s (next s) ≡ step next (live s)
 unfolding step
-step_going next s e h = rw (going_is e h)
+step_going next s = refl

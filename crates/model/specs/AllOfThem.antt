@@ -5,10 +5,9 @@ use Rattle.std.proofs.Math.Option.{some}
 use Rattle.std.proofs.Math.ListN.{get_elem?}
 use Rattle.numbers.specs.Number.{Below}
 use Rattle.model.specs.declared.Place.{Place}
-use Rattle.model.specs.declared.Answer.TheVariants.{Accepted}
 use Rattle.model.specs.Places.{place_at, next_of, kind_of, Makes}
 use Rattle.model.specs.Records.{Rec, do_word, link, hold, go_if, go_to, go_held, stop, unknown, Group, one, two, group, Row, row, rows_in, records_in, numbers_in}
-use Rattle.model.specs.Translation.{Handed, translation}
+use Rattle.model.specs.Translation.{accepted, Handed, translation}
 
 -- the row of a place with its first record f: "four numbers each: address, next, kind, first record"
 abbrev pub row_of : Place → ℕ → Row
@@ -68,5 +67,5 @@ AllOfThem =
     (image : List ℕ) (base : ℕ) (entryList : List ℕ) (placesLength recordsLength placeCount recordCount : ℕ)
     → Below 256 image → Below 256 entryList
     → (handed : Handed) → handed ≡ translation image base entryList placesLength recordsLength
-    → handed.answer ≡ Accepted placeCount recordCount
+    → handed.answer ≡ accepted placeCount recordCount
     → Translated image base entryList placeCount recordCount (take (16 * placeCount) handed.places) (take (12 * recordCount) handed.records)

@@ -7,12 +7,11 @@ use Rattle.machine.specs.Ends.{ending, State, state, live}
 use Rattle.machine.specs.Registers.{file_size, y_of}
 use Rattle.windows.specs.Windows.{nesting_of, place_of}
 use Rattle.effects.specs.Effect.{machine}
-use Rattle.model.specs.declared.Answer.TheVariants.{Accepted}
 use Rattle.model.specs.Run.{run}
 use Rattle.model.specs.OldCore.{in_image}
 use Rattle.model.specs.Places.{plain, Makes}
 use Rattle.model.specs.Records.{numbers_in}
-use Rattle.model.specs.Translation.{Handed, translation}
+use Rattle.model.specs.Translation.{accepted, Handed, translation}
 use Rattle.model.specs.Trails.{Core, Trail, at, trail, entries, closing, opening, last_at, later, gaps, OneOrTwo, Unspent, reached, stood, landed, Traced}
 use Rattle.model.specs.Cores.{Start, old_over, new_over, old_begin, new_begin, steps_for, trail_of}
 
@@ -97,7 +96,7 @@ Demand3 =
     (image : List ℕ) (base : ℕ) (entryList : List ℕ) (placesLength recordsLength placeCount recordCount : ℕ)
     → Below 256 image → Below 256 entryList
     → (handed : Handed) → handed ≡ translation image base entryList placesLength recordsLength
-    → handed.answer ≡ Accepted placeCount recordCount
+    → handed.answer ≡ accepted placeCount recordCount
     -- "for each core, any address with a plain place to begin at and any registers, flags and data"; 02, N4: "demand 3 takes any Y"; N11: "demand 3
     -- takes any windows and any nesting from 0 to 6"
     → (x y : Start) → Placed image base entryList x.address → Placed image base entryList y.address

@@ -1,10 +1,9 @@
 -- 02, N8, The first bad entry: what refusal 3 says of an entry list, held to its words. `translation` works the position out; here stands
 -- what it is, without a word of how.
-use Rattle.std.specs.Prelude.{ℕ, suc, ◌%◌, ◌<◌, ◌≡◌, ◌↔◌, true, false, List, length, get_or}
-use Rattle.model.specs.declared.Answer.{Answer}
-use Rattle.model.specs.declared.Answer.TheVariants.{Entry}
+use Rattle.std.specs.Prelude.{ℕ, suc, ◌%◌, ◌<◌, ◌≡◌, ◌↔◌, true, false, List, length, get_or, Err}
+use Rattle.model.specs.declared.Refusal.TheVariants.{Entry}
 use Rattle.model.specs.Records.{numbers_in}
-use Rattle.model.specs.Translation.{bad_length, bad_count, bad_entry, translation}
+use Rattle.model.specs.Translation.{Answer, bad_length, bad_count, bad_entry, translation}
 
 -- "the first entry, in list order, that is misaligned or outside the image": k stand before it, and none of those is
 pub record First (base size : ℕ) (es : List ℕ) (k : ℕ) : Type 0 where
@@ -15,9 +14,9 @@ pub record First (base size : ℕ) (es : List ℕ) (k : ℕ) : Type 0 where
 -- an answer for a list of entries
 pub record NamesFirst (base size : ℕ) (es : List ℕ) (answer : Answer) : Type 0 where
   -- "a bad count still gives 0"
-  pub count : (answer ≡ Entry 0) ↔ (bad_count (length es) ≡ true)
+  pub count : (answer ≡ Err (Entry 0)) ↔ (bad_count (length es) ≡ true)
   -- "Refusal 3's position is to be that of the first entry"; 01: "counted from 1"
-  pub entry : (k : ℕ) → (answer ≡ Entry (suc k)) ↔ ((bad_count (length es) ≡ false) × First base size es k)
+  pub entry : (k : ℕ) → (answer ≡ Err (Entry (suc k))) ↔ ((bad_count (length es) ≡ false) × First base size es k)
 
 -- where refusals 1 and 2 do not come first
 unfoldable pub FirstBadEntry : Type 0

@@ -1,5 +1,7 @@
 -- 01, The old core: the loop over PC, nPC and annul.
 use Rattle.std.specs.Prelude.{ℕ, ◌+◌, ◌*◌, ◌%◌, Bool, true, false, ◌&&◌, List, leb, eqb, length}
+use Rattle.std.specs.Prelude.{Some, None}
+use Rattle.std.specs.Prelude.{Option as Read}
 use Rattle.std.proofs.Math.Option.{Option, none, some}
 use Rattle.numbers.specs.Choice.{pick}
 use Rattle.numbers.specs.Number.{plus, minus, number_at}
@@ -27,6 +29,11 @@ in_image base size p = leb (minus p base + 4) size
 -- the word at an address that lies in the image
 unfoldable pub word_in : List ℕ → ℕ → ℕ → Option ℕ
 word_in image base p = pick (in_image base (length image) p) (some (number_at image (minus p base))) none
+
+-- the same, as code answers it
+unfoldable pub word_of : Read ℕ → Option ℕ
+word_of (Some w) = some w
+word_of None = none
 
 -- What a word does to control: nothing, or one of the ways that 01 tells apart. Three types speak of a word, since three readers want
 -- different parts of it. `Instruction` (words) is all of it, and what the cores execute. `Transfer` is what decides where control goes, with a

@@ -1,23 +1,35 @@
 -- 01, What the translator hands back: from the bytes of image and entries, the base and the lengths of both buffers.
-use Rattle.std.specs.Prelude.{ℕ, suc, ◌-◌, ◌/◌, ◌%◌, min, Bool, ◌&&◌, ◌||◌, not, List, [], ◌∷◌, ◌++◌, eqb, leb, ltb, length, replicate}
+use Rattle.std.specs.Prelude.{ℕ, suc, ◌-◌, ◌/◌, ◌%◌, min, Bool, ◌&&◌, ◌||◌, not, List, [], ◌∷◌, ◌++◌, eqb, leb, ltb, length, replicate, Result, Ok, Err}
 use Rattle.numbers.specs.Choice.{pick}
 use Rattle.numbers.specs.Number.{bytes_of}
 use Rattle.model.specs.declared.Place.{Place}
-use Rattle.model.specs.declared.Answer.{Answer}
-use Rattle.model.specs.declared.Answer.TheVariants.{Accepted, ImageLength, Base, Entry, Forbidden, NoRoom, RecordsShort}
+use Rattle.model.specs.declared.Counts.{Counts}
+use Rattle.model.specs.declared.Refusal.{Refusal}
+use Rattle.model.specs.declared.Refusal.TheVariants.{ImageLength, Base, Entry, Forbidden, NoRoom, RecordsShort}
 use Rattle.model.specs.OldCore.{in_image}
 use Rattle.model.specs.Walk.{Walked, table, refused, endless, places_of}
 use Rattle.model.specs.Records.{numbers_in, in_full, rows_of, records_of, table_numbers, records_numbers}
 
+abbrev pub Answer : Type 0
+Answer = Result Counts Refusal
+
+-- so many places and records
+abbrev pub accepted : ℕ → ℕ → Answer
+accepted places records = Ok (record { places = places; records = records })
+
+-- 01's number for each refusal, and the value returned
+unfoldable pub refusal_numbers : Refusal → List ℕ
+refusal_numbers (ImageLength n) = 1 ∷ n ∷ []
+refusal_numbers (Base a) = 2 ∷ a ∷ []
+refusal_numbers (Entry k) = 3 ∷ k ∷ []
+refusal_numbers (Forbidden a) = 4 ∷ a ∷ []
+refusal_numbers (NoRoom a) = 5 ∷ a ∷ []
+refusal_numbers (RecordsShort n) = 6 ∷ n ∷ []
+
 -- 01's number for each answer, and the values returned
 unfoldable pub answer_numbers : Answer → List ℕ
-answer_numbers (Accepted places records) = 0 ∷ places ∷ records ∷ []
-answer_numbers (ImageLength n) = 1 ∷ n ∷ 0 ∷ []
-answer_numbers (Base a) = 2 ∷ a ∷ 0 ∷ []
-answer_numbers (Entry k) = 3 ∷ k ∷ 0 ∷ []
-answer_numbers (Forbidden a) = 4 ∷ a ∷ 0 ∷ []
-answer_numbers (NoRoom a) = 5 ∷ a ∷ 0 ∷ []
-answer_numbers (RecordsShort n) = 6 ∷ n ∷ 0 ∷ []
+answer_numbers (Ok c) = 0 ∷ c.places ∷ c.records ∷ []
+answer_numbers (Err e) = refusal_numbers e ++ 0 ∷ []
 
 -- the answer and the bytes of both buffers
 pub record Handed : Type 0 where
@@ -52,14 +64,14 @@ unfoldable pub filled : List ℕ → ℕ → List ℕ
 filled numbers size = bytes_of numbers ++ replicate (size - length (bytes_of numbers)) 0
 
 -- "Every refusal fills both buffers with 0"
-unfoldable pub refusal : ℕ → ℕ → Answer → Handed
-refusal placesLength recordsLength a = record { answer = a; places = replicate placesLength 0; records = replicate recordsLength 0 }
+unfoldable pub refusal : ℕ → ℕ → Refusal → Handed
+refusal placesLength recordsLength e = record { answer = Err e; places = replicate placesLength 0; records = replicate recordsLength 0 }
 
 module _ (image : List ℕ) (base placesLength recordsLength : ℕ) where
   unfoldable pub acceptance : List Place → Handed
   acceptance ps =
       record {
-        answer = Accepted (length ps) (length (records_of (in_full image base) ps));
+        answer = accepted (length ps) (length (records_of (in_full image base) ps));
         places = filled (table_numbers (rows_of (in_full image base) ps)) placesLength;
         records = filled (records_numbers (records_of (in_full image base) ps)) recordsLength;
       }

@@ -1,25 +1,24 @@
--- Laws of a record: the words that it may do, the jmpl that it may hold, the record at hand, the search of the table.
+-- Laws of a record: the words that it may do, the jmpl that it may hold, the record at hand.
 use Rattle.numbers.proofs.Choice.{either, Misses, find_none}
-use Rattle.numbers.proofs.Lists.{at_up, past_up, drop_up, drop_all_up}
+use Rattle.numbers.proofs.Lists.{at_up, past_up}
 use Rattle.numbers.specs.Number.{number_at}
 use Rattle.words.specs.declared.Instruction.TheVariants.{Illegal, Call, Sethi, Bicc, Arithmetic, Jmpl, Ticc, Load, Store, Shift, Rdy, Wry, Window}
 use Rattle.words.specs.declared.Instruction.{Instruction}
 use Rattle.words.specs.Reader.{instruction_of, as_jmpl}
 use Rattle.machine.specs.Ends.{ending, halt}
 use Rattle.effects.specs.Effect.{Machine}
-use Rattle.model.specs.Records.{row_at, rows_in, record_at, records_in, record_of, Rec, do_word, link, hold, go_if, go_to, go_held, stop, unknown}
+use Rattle.model.specs.Records.{record_at, records_in, record_of, Rec, do_word, link, hold, go_if, go_to, go_held, stop, unknown}
 use Rattle.model.specs.Places.{which_of, idle_bicc, Which, always, depends}
 use Rattle.model.specs.OldCore.{transfer_of, Transfer, straight, trap}
-use Rattle.model.specs.NewCore.{fit, holds, seek}
+use Rattle.model.specs.NewCore.{fit, holds}
 use denote.Enum.Declared.{tag_of}
 use types.Run.{OneOf, miss}
-use borrow.Author.Tests.{eq-eqb, ne_eqb}
-use lib.ListN.{length, drop, get_elem?}
+use borrow.Author.Tests.{ne_eqb}
+use lib.ListN.{length, get_elem?}
 use lib.Dec.{eqb}
-use native.Mathlib.Numerals.{add-one}
 use mathlib.Core.Option.{none, some}
 use mathlib.Core.List.{List, [], ◌∷◌}
-use mathlib.Core.Bool.{Bool, true, false, ◌&&◌, and-false}
+use mathlib.Core.Bool.{Bool, true, false}
 use mathlib.Core.Path.{◌≡◌, refl}
 use Prim.Native.Nat.{ℕ, ◌+◌, ◌*◌, ◌/◌, ◌≤◌, ◌<◌}
 use Rattle.words.specs.contracts.Instruction.{the_type as instruction}
@@ -89,9 +88,9 @@ pub never_taken : (cond : ℕ) (annul : Bool) → annul ≡ false → cond ≡ 0
 unfolding idle_bicc which_of
 never_taken cond annul h e = rw (h, e)
 
-pub may_be_taken : (cond : ℕ) (annul : Bool) → annul ≡ false → (cond ≡ 0 → ⊥) → idle_bicc (which_of cond) annul ≡ false
+pub may_be_taken : (cond : ℕ) (annul : Bool) → (cond ≡ 0 → ⊥) → idle_bicc (which_of cond) annul ≡ false
 unfolding idle_bicc which_of
-may_be_taken cond annul h n = rw (h, ne_eqb cond 0 n) (either (λ (w : Which). idle_bicc w false ≡ false) (eqb cond 8) always depends refl refl)
+may_be_taken cond annul n = rw (ne_eqb cond 0 n) (either (λ (w : Which). idle_bicc w annul ≡ false) (eqb cond 8) always depends refl refl)
 
 -- the record at hand
 pub at_hand : (records : List ℕ) (r : ℕ) → r < length records / 12 → get_elem? (records_in records) r ≡ some (record_at records r)
@@ -101,27 +100,6 @@ at_hand records r h = at_up (record_at records) (length records / 12) r h
 pub past_last : (records : List ℕ) (r : ℕ) → length records / 12 ≤ r → get_elem? (records_in records) r ≡ none
 unfolding records_in
 past_last records r h = past_up (record_at records) (length records / 12) r h
-
--- the search of the table: the row at i is the one sought, or it is passed over; past the last there is none
-module _ (places : List ℕ) (a i : ℕ) where
-  pub sought_here : i < length places / 16 → number_at places (16 * i + 8) ≡ 0 → number_at places (16 * i) ≡ a → seek (drop i (rows_in places)) a ≡ some (number_at places (16 * i + 12))
-  unfolding rows_in seek row_at
-  sought_here h k p = rw (drop_up (row_at places) (length places / 16) i h, k, p, eq-eqb a a refl)
-
-  not_here : i < length places / 16 → eqb (number_at places (16 * i + 8)) 0 && eqb (number_at places (16 * i)) a ≡ false
-      → seek (drop (i + 1) (rows_in places)) a ≡ seek (drop i (rows_in places)) a
-  unfolding rows_in seek row_at
-  not_here h t = rw (add-one i, drop_up (row_at places) (length places / 16) i h, t)
-
-  pub not_plain : i < length places / 16 → (number_at places (16 * i + 8) ≡ 0 → ⊥) → seek (drop (i + 1) (rows_in places)) a ≡ seek (drop i (rows_in places)) a
-  not_plain h n = not_here h (rw (ne_eqb (number_at places (16 * i + 8)) 0 n))
-
-  pub elsewhere : i < length places / 16 → (number_at places (16 * i) ≡ a → ⊥) → seek (drop (i + 1) (rows_in places)) a ≡ seek (drop i (rows_in places)) a
-  elsewhere h n = not_here h (rw (ne_eqb (number_at places (16 * i)) a n, and-false (eqb (number_at places (16 * i + 8)) 0)))
-
-  pub not_anywhere : length places / 16 ≤ i → seek (drop i (rows_in places)) a ≡ none
-  unfolding rows_in seek
-  not_anywhere h = rw (drop_all_up (row_at places) (length places / 16) i h)
 
 -- the record that starts at a position, from its first two numbers
 pub read_as : (records : List ℕ) (at r kind x : ℕ) → at ≡ 12 * r → kind ≡ number_at records at → x ≡ number_at records (at + 4)

@@ -1,59 +1,31 @@
 -- Laws of numbers modulo 2^32, of signs, and of numbers in lists of bytes.
-use Rattle.std.proofs.Common.{◌≡◌, ℕ, zero, suc, ◌+◌, ◌-◌, ◌*◌, ◌/◌, ◌%◌, ◌^◌, ◌<◌, ◌≤◌, ltb, List, [], ◌∷◌, ◌++◌, length, get_or, take, drop, set, replicate, sym, refl, ap, ◌∙◌, append_assoc, append-nil, add-zero, mod-eq_of_lt, add-one, arith, length-append, length-set, drop_of_length-le, drop-cons, drop-drop, take-suc-set, take_at, drop_at, shr-shr, ltb-false, ltb-true}
-use native.Mathlib.Nat.{sub-zero, mod-eq-sub-mod}
-use lib.Seq.{paste, paste-suc, drop-nil}
+use Rattle.std.proofs.Common.{◌≡◌, ℕ, zero, suc, ◌+◌, ◌-◌, ◌*◌, ◌/◌, ◌%◌, ◌^◌, ◌<◌, ◌≤◌, ltb, List, [], ◌∷◌, ◌++◌, length, get_or, take, drop, set, sym, refl, ap, ◌∙◌, append_assoc, add-zero, mod-eq_of_lt, add-one, arith, length-append, length-set, drop-cons, drop-drop, take-suc-set, take_at, drop_at, shr-shr, ltb-false, ltb-true}
+use native.Mathlib.Nat.{mod-eq-sub-mod}
+use Rattle.std.proofs.lemmas.Nat.{one_shl}
+use Rattle.std.proofs.Math.Nat.{two-pow-succ}
+use Rattle.std.proofs.Math.Pow.{pow_mono}
+use lib.Seq.{paste, paste-zero, paste-suc, drop-nil}
 use lib.ListN.{get_or-append}
-use borrow.Author.Fill.{fill_more}
 use Rattle.numbers.specs.Choice.{pick}
-use Rattle.numbers.specs.Number.{Below, minus, put_number, zero_from, number_at, numbers_of, bytes_of, up_to}
+use Rattle.numbers.specs.Number.{Below, minus, put_number, number_at, numbers_of, bytes_of, up_to}
 use Rattle.numbers.proofs.Choice.{by_test}
 use Rattle.numbers.proofs.Bounds.{below_get}
 use Rattle.numbers.proofs.Lists.{length_up, up_list}
 
--- the lowest byte of a sum, and the rest
-lowest : (a q : ℕ) → a < 256 → (a + q * 256) % 256 ≡ a
-lowest a q p = omega arith
-
--- a little-endian sum of four bytes, and its bytes
-module _ (a b c d : ℕ) (p : a < 256) (q : b < 256) (r : c < 256) (s : d < 256) (x : ℕ) (i : x ≡ a + b * 256 + c * 65536 + d * 16777216) where
-  pub its_bytes : (x % 256 ≡ a) × (x / 256 % 256 ≡ b) × (x / 65536 % 256 ≡ c) × (x / 16777216 ≡ d)
-  its_bytes =
-      let f : x / 256 ≡ b + (c + d * 256) * 256 = omega arith in
-      let g : x / 65536 ≡ c + d * 256 = omega arith in
-      (omega arith, rw f (lowest b (c + d * 256) q), rw g (lowest c d r), omega arith)
-
-  -- in reverse order
-  pub reversed : x % 256 * 16777216 + x / 256 % 256 * 65536 + x / 65536 % 256 * 256 + x / 16777216 ≡ a * 2 ^ 24 + b * 2 ^ 16 + c * 2 ^ 8 + d
-  reversed = rw (its_bytes.0, its_bytes.1, its_bytes.2, its_bytes.3)
-
--- one more byte is cleared
-pub clear_more : (n i : ℕ) (l : List ℕ) → n ≤ i → i < length l
-    → set (take n l ++ replicate (i - n) 0 ++ drop i l) i 0 ≡ take n l ++ replicate (i + 1 - n) 0 ++ drop (i + 1) l
-clear_more zero i l h k = rw (sub-zero i, sub-zero (i + 1)) (fill_more i 0 l k)
-clear_more (suc n) zero l h k = absurd (omega arith)
-clear_more (suc n) (suc i) [] h k = absurd (omega arith)
-clear_more (suc n) (suc i) (x ∷ l) h k =
-    let e1 : suc i - suc n ≡ i - n = omega arith in
-    let e2 : suc i + 1 - suc n ≡ i + 1 - n = omega arith in
-    let e3 : suc i + 1 ≡ suc (i + 1) = omega arith in
-    rw (e1, e2, e3) (ap (λ (t : List ℕ). x ∷ t) (clear_more n i l (omega arith) (omega arith)))
-
-pub clear_none : (n : ℕ) (l : List ℕ) → n ≤ length l → l ≡ take n l ++ replicate (n - n) 0 ++ drop n l
-clear_none zero l h = refl
-clear_none (suc n) [] h = absurd (omega arith)
-clear_none (suc n) (x ∷ l) h =
-    let e : suc n - suc n ≡ n - n = omega arith in
-    rw e (ap (λ (t : List ℕ). x ∷ t) (clear_none n l (omega arith)))
-
-pub clear_done : (n i : ℕ) (l : List ℕ) → length l ≤ i → i ≤ length l → take n l ++ replicate (i - n) 0 ++ drop i l ≡ zero_from n l
-unfolding zero_from
-clear_done n i l h k =
-    let e : i ≡ length l = omega arith in
-    rw (drop_of_length-le l {i = i} h, e) (rw append-nil)
-
 pub length_put : (l : List ℕ) (at v : ℕ) → length (put_number l at v) ≡ length l
 unfolding put_number
 length_put l at v = simp length-set
+
+-- four bytes pasted are four bytes set, one after the other
+pub pasted : (l : List ℕ) (at a b c d : ℕ) → at + 4 ≤ length l
+    → paste l at (a ∷ b ∷ c ∷ d ∷ []) 4 ≡ set (set (set (set l at a) (at + 1) b) (at + 2) c) (at + 3) d
+pasted l at a b c d h =
+    let bs : List ℕ = a ∷ b ∷ c ∷ d ∷ [] in
+    let more : (j : ℕ) → j < 4 → set (paste l at bs j) (at + j) (get_or bs j 0) ≡ paste l at bs (suc j) =
+    λ j k. paste-suc l at bs j 0 (omega arith) k in
+    let z : at + 0 ≡ at = omega arith in
+    let first : set l at a ≡ paste l at bs 1 = ap (λ (t : List ℕ). set t at a) (paste-zero l at bs) ∙ ap (λ (n : ℕ). set (paste l at bs 0) n a) (sym z) ∙ more 0 (omega arith) in
+    sym (rw (first, more 1 (omega arith), more 2 (omega arith), more 3 (omega arith)))
 
 -- a sign extended by a sum and a difference, over the weight of the sign bit
 pub extend_by_sum : (h v : ℕ) → v < h + h → h + h ≤ 2 ^ 32 → minus ((v + h) % (h + h)) h ≡ pick (ltb v h) v (v + (2 ^ 32 - (h + h)))
@@ -65,6 +37,14 @@ extend_by_sum h v b l =
     let e : (v + h) % (h + h) ≡ v - h = mod-eq-sub-mod (omega arith) ∙ mod-eq_of_lt (omega arith) ∙ omega arith in
     let f : (v - h + 2 ^ 32 - h) % 2 ^ 32 ≡ v - h + 2 ^ 32 - h = mod-eq_of_lt (omega arith) in
     rw (e, f) (omega arith))
+
+-- the weight of a sign bit, as it is shifted
+pub sign_weight : (bits : ℕ) → 0 < bits → bits < 32
+    → (1 * 2 ^ (bits - 1) % 2 ^ 32 ≡ 2 ^ (bits - 1)) × (2 ^ (bits - 1) + 2 ^ (bits - 1) ≡ 2 ^ bits) × (2 ^ bits ≤ 2 ^ 31)
+sign_weight zero h l = absurd (omega arith)
+sign_weight (suc n) h l =
+    let e : suc n - 1 ≡ n = omega arith in
+    rw e (one_shl n 32 (omega arith), sym (two-pow-succ n), pow_mono {i = suc n} {j = 31} (omega arith))
 
 -- the bytes of a list of numbers, and one of them
 pub length_bytes : (vs : List ℕ) → length (bytes_of vs) ≡ 4 * length vs

@@ -14,7 +14,7 @@ use Rattle.model.proofs.RoundTrip.{annul_back}
 use denote.Enum.Declared.{tag_of}
 use types.Run.{OneOf, miss}
 use mathlib.Core.List.{List, [], ◌∷◌}
-use mathlib.Core.Bool.{Bool, true, false, and-true, and-false}
+use mathlib.Core.Bool.{Bool, true, false, ◌&&◌}
 use mathlib.Core.Path.{◌≡◌, refl}
 use Prim.Native.Nat.{ℕ, ◌%◌}
 use Rattle.words.specs.contracts.Instruction.{the_type as instruction}
@@ -53,17 +53,14 @@ pub is_clear : (x : ℕ) → x ≡ 0 → is_set x ≡ false
 unfolding is_set
 is_clear x e = rw e
 
--- a branch: its condition holds and is 8, holds and is another, fails
+-- a branch: its condition holds, fails
 module _ (m : Machine) (npc t : ℕ) (annul holds always : Bool) where
-  pub branch_always : (k : ℕ) → holds ≡ true → always ≡ true → k ≡ bit_of annul → live (old m npc t (is_set k)) ≡ live (branches holds always annul m npc t)
+  pub branch_taken : (k : ℕ) (b : Bool) → holds ≡ true → b ≡ annul && always → k ≡ bit_of b
+      → old m npc t (is_set k) ≡ branches holds always annul m npc t
   unfolding branches
-  branch_always k h e b = rw (h, e, b, annul_back annul, and-true annul)
+  branch_taken k b h e n = rw (h, n, annul_back b, e)
 
-  pub branch_taken : holds ≡ true → always ≡ false → live (old m npc t (is_set 0)) ≡ live (branches holds always annul m npc t)
-  unfolding branches is_set
-  branch_taken h e = rw (h, e, and-false annul)
-
-  pub branch_fails : (k n : ℕ) → holds ≡ false → k ≡ bit_of annul → n ≡ plus npc 4 → live (old m npc n (is_set k)) ≡ live (branches holds always annul m npc t)
+  pub branch_fails : (k n : ℕ) → holds ≡ false → k ≡ bit_of annul → n ≡ plus npc 4 → old m npc n (is_set k) ≡ branches holds always annul m npc t
   unfolding branches
   branch_fails k n h b e = rw (h, b, annul_back annul, e)
 

@@ -1,7 +1,8 @@
 -- Laws of states and their bytes.
-use Rattle.machine.specs.Ends.{ending_of, Ending, State, ending, state}
+use Rattle.machine.specs.Ends.{standing_of, Ending, State, ending, state}
 use Rattle.effects.specs.Effect.{Machine}
 use Rattle.states.specs.declared.NewControl.{NewControl}
+use Rattle.states.specs.declared.Standing.{Standing}
 use Rattle.model.specs.Run.{data_of, beyond, lent, Lent}
 use Rattle.model.specs.NewCore.{New, new}
 use Rattle.model.specs.StateBytes.{new_bytes, after, new_after}
@@ -16,7 +17,7 @@ pub same_machine : {m m' : Machine} {r r' h h' : ℕ} {e e' : Ending} → state 
 same_machine h = cc
 
 -- what a call answers and leaves, from what the run and the encoding say
-pub after_run : (rs : List ℕ) (c : NewControl) (area bytes rest : List ℕ) (x : State New) (n v : ℕ) → ending n v ≡ ending_of c.end
+pub after_run : (rs : List ℕ) (c : Standing NewControl) (area bytes rest : List ℕ) (x : State New) (n v : ℕ) → ending n v ≡ standing_of c.end
     → bytes ≡ new_bytes (new_state rs c (data_of area)) → lent (new_state rs c (data_of area)) (beyond area) ≡ lent x rest
     → after n v bytes area ≡ new_after x rest
 unfolding new_after

@@ -2,49 +2,42 @@
 #![tactic(auto)]
 
 ghost use Rattle.std.specs.Prelude.{◌≡◌, List, [], ℕ};
-ghost use Rattle.machine.specs.Ends.{ending, ending_of};
+ghost use Rattle.machine.specs.Ends.{ending, standing_of};
 ghost use Rattle.windows.specs.Windows.{laid};
 ghost use Rattle.model.specs.Run.{zeroed};
 ghost use Rattle.states.specs.NewState.{new_state};
 ghost use Rattle.model.specs.StateBytes.{new_in, new_bytes, after, new_begins, new_runs};
 
 use machine::registers::{FILE, File};
-use machine::{Ended, Flags, SourcePc, TargetPc};
-use states::{NEW_BEHIND, NEW_STATE, NewControl};
+use machine::{Ended, SourcePc, TargetPc};
+use new_core::{Places, Translation};
+use states::{NEW_BEHIND, NEW_STATE, NewControl, Standing};
 
-// The state that bytes stand for, its file lent.
-fn decode(state: &[u8; NEW_STATE], regs: &mut File) -> NewControl
+// The state that bytes stand for, its file lent. What both cores' states share is read in `states`; these numbers are this core's.
+fn decode(state: &[u8; NEW_STATE], regs: &mut File) -> Standing<NewControl>
     ensures { (a : List ℕ) → new_state (zeroed regs.new) result a ≡ new_in state.now a }
 {
     states::file_in(state, NEW_BEHIND, regs);
-    let nzvc = numbers::read_number(state, 128) % 16;
-    let k = TargetPc(numbers::read_number(state, 132));
-    let h = SourcePc(numbers::read_number(state, 136));
-    let e = machine::end_from(
-        numbers::read_number(state, 140),
-        numbers::read_number(state, 144),
-    );
-    let f = Flags { nzvc };
-    NewControl {
-        flags: f,
-        at: k,
-        held: h,
-        end: e,
+    Standing {
+        control: NewControl {
+            flags: states::flags_in(state),
+            at: TargetPc(numbers::read_number(state, 132)),
+            held: SourcePc(numbers::read_number(state, 136)),
+        },
+        end: states::end_in(state, 140),
     }
 }
 
 // The bytes of a state, the current window among the others, and how it ended.
-fn encode(regs: &mut File, c: NewControl, state: &mut [u8; NEW_STATE]) -> Ended
-    ensures { (ending result.end result.number ≡ ending_of c.end) × (regs.new ≡ laid regs.old) × ((a : List ℕ) → state.new ≡ new_bytes (new_state regs.old c a)) }
+#[tactic(auto, unfolding(model::specs::StateBytes::new_bytes))]
+fn encode(regs: &mut File, s: Standing<NewControl>, state: &mut [u8; NEW_STATE]) -> Ended
+    ensures { (ending result.end result.number ≡ standing_of s.end) × (regs.new ≡ laid regs.old) × ((a : List ℕ) → state.new ≡ new_bytes (new_state regs.old s a)) }
 {
-    let f = c.flags;
-    let k = c.at;
-    let h = c.held;
-    let e = c.end;
-    let r = machine::numbers_of(e);
-    let rest = [f.nzvc, k.0, h.0, r.end, r.number];
+    let c = s.control;
+    let ended = Ended::from(s.end);
+    let rest = [c.flags.nzvc, c.at.0, c.held.0, ended.end, ended.number];
     states::put_state(state, regs, &rest);
-    r
+    ended
 }
 
 // Begins at an address: registers, flags, Y, nesting and windows stay.
@@ -59,7 +52,12 @@ pub fn pijorrel_new_begin(
 {
     let mut regs = [0u32; FILE];
     let c = decode(state, &mut regs);
-    let k = new_core::begin(places, base, size, &mut regs, c, SourcePc(a));
+    let places = Places {
+        table: places,
+        base,
+        size,
+    };
+    let k = new_core::begin(&places, &mut regs, c.control, SourcePc(a));
     encode(&mut regs, k, state)
 }
 
@@ -78,6 +76,12 @@ pub fn pijorrel_new_run(
 {
     let mut regs = [0u32; FILE];
     let c = decode(state, &mut regs);
-    let k = new_core::run(records, places, base, size, db, &mut regs, c, area, count);
+    let places = Places {
+        table: places,
+        base,
+        size,
+    };
+    let translation = Translation { records, places };
+    let k = new_core::run(&translation, db, &mut regs, c, area, count);
     encode(&mut regs, k, state)
 }

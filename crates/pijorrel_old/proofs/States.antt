@@ -1,7 +1,8 @@
 -- Laws of states and their bytes.
-use Rattle.machine.specs.Ends.{ending_of, Ending, State, ending, state}
+use Rattle.machine.specs.Ends.{standing_of, Ending, State, ending, state}
 use Rattle.effects.specs.Effect.{Machine}
 use Rattle.states.specs.declared.OldControl.{OldControl}
+use Rattle.states.specs.declared.Standing.{Standing}
 use Rattle.model.specs.Run.{data_of, beyond, lent, Lent}
 use Rattle.model.specs.OldCore.{Old, old}
 use Rattle.states.specs.OldState.{old_state}
@@ -18,7 +19,7 @@ pub same_machine : {m m' : Machine} {pc pc' npc npc' : ℕ} {a a' : Bool} {e e' 
 same_machine h = cc
 
 -- what a call answers and leaves, from what the run and the encoding say
-pub after_run : (rs : List ℕ) (c : OldControl) (area bytes rest : List ℕ) (x : State Old) (n v : ℕ) → ending n v ≡ ending_of c.end
+pub after_run : (rs : List ℕ) (c : Standing OldControl) (area bytes rest : List ℕ) (x : State Old) (n v : ℕ) → ending n v ≡ standing_of c.end
     → bytes ≡ old_bytes (old_state rs c (data_of area)) → lent (old_state rs c (data_of area)) (beyond area) ≡ lent x rest
     → after n v bytes area ≡ old_after x rest
 unfolding old_after

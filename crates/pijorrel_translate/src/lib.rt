@@ -6,7 +6,7 @@ ghost use Rattle.model.specs.Translation.{answer_numbers, back, returned, transl
 
 use model::Answer;
 
-// 01's number for an answer, and the values returned with it.
+// 01's number for an answer, and the values returned with it, as C has them.
 #[repr(C)]
 #[derive(Clone, Copy)]
 pub struct PijorrelAnswer {
@@ -15,31 +15,26 @@ pub struct PijorrelAnswer {
     pub second: u64,
 }
 
-fn refusal(number: u32, first: u64) -> PijorrelAnswer
-    ensures { result.number ∷ result.first ∷ result.second ∷ [] ≡ number ∷ first ∷ 0 ∷ [] }
-{
-    PijorrelAnswer {
-        number,
-        first,
-        second: 0,
-    }
-}
+impl From<Answer> for PijorrelAnswer {
+    ghost from_gives = { λ a r. r.number ∷ r.first ∷ r.second ∷ [] ≡ answer_numbers a };
 
-fn numbers_of(a: Answer) -> PijorrelAnswer
-    ensures { result.number ∷ result.first ∷ result.second ∷ [] ≡ answer_numbers a }
-{
-    match a {
-        Answer::Accepted(n, m) => PijorrelAnswer {
-            number: 0,
-            first: n as u64,
-            second: m as u64,
-        },
-        Answer::ImageLength(n) => refusal(1, n),
-        Answer::Base(b) => refusal(2, b as u64),
-        Answer::Entry(k) => refusal(3, k as u64),
-        Answer::Forbidden(p) => refusal(4, p as u64),
-        Answer::NoRoom(p) => refusal(5, p as u64),
-        Answer::RecordsShort(n) => refusal(6, n as u64),
+    #[tactic(auto, unfolding(model::specs::Translation::answer_numbers))]
+    fn from(answer: Answer) -> Self {
+        match answer {
+            Ok(counts) => PijorrelAnswer {
+                number: 0,
+                first: u64::from(counts.places),
+                second: u64::from(counts.records),
+            },
+            Err(refusal) => {
+                let (number, value) = refusal.numbers();
+                PijorrelAnswer {
+                    number,
+                    first: value,
+                    second: 0,
+                }
+            }
+        }
     }
 }
 
@@ -53,5 +48,5 @@ pub fn pijorrel_translate(
 ) -> PijorrelAnswer
     ensures { back (result.number ∷ result.first ∷ result.second ∷ []) places.new records.new ≡ returned (translation image.now base entries.now (length places.old) (length records.old)) }
 {
-    numbers_of(translator::translate(image, base, entries, places, records))
+    translator::translate(image, base, entries, places, records).into()
 }

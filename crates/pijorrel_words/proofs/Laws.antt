@@ -9,11 +9,9 @@ use Rattle.numbers.specs.Choice.{pick}
 use Rattle.numbers.specs.Number.{minus, bytes_of}
 use Rattle.numbers.proofs.Choice.{Misses, find_none, found_all}
 use Rattle.words.specs.Reader.{Format2, rows2, none2, format2_of, Format3, rows3, none3, format3_of}
-use Rattle.words.specs.Writer.{arithmetic_op3, shift_op3, window_op3, load_op3, store_op3, long_word, shift_word, rdy_word, wry_word, trap_word, written_of}
+use Rattle.words.specs.Writer.{Written, refusal, arithmetic_op3, shift_op3, window_op3, load_op3, store_op3, long_word, shift_word, rdy_word, wry_word, trap_word, written_of}
 use Rattle.words.specs.Flow.{flow_of, is_known}
 use Rattle.words.specs.declared.Operand.{Operand}
-use Rattle.words.specs.declared.Written.{Written}
-use Rattle.words.specs.declared.Written.TheVariants.{Unfit}
 use Rattle.pijorrel_words.specs.Forms.{operand_from, by_op, forms, instruction_from}
 
 -- a form that is in no row goes by op
@@ -29,16 +27,16 @@ by_key op3 rd rs1 x =
     (pick (ltb (minus op3 37) 3) (shift_word rd op3 rs1 x)
     (pick (eqb op3 40) (rdy_word rd) (pick (eqb op3 48) (wry_word rs1 x) (long_word 2 rd op3 rs1 x))))
 
-pub form_2 : (op3 rd rs1 : ℕ) (x : Operand) → written_of (format2_of op3 rd rd rs1 x) ≡ pick (is_known (flow_of (format2_of op3 0 0 rs1 x))) (by_key op3 rd rs1 x) (Unfit 0)
+pub form_2 : (op3 rd rs1 : ℕ) (x : Operand) → written_of (format2_of op3 rd rd rs1 x) ≡ pick (is_known (flow_of (format2_of op3 0 0 rs1 x))) (by_key op3 rd rs1 x) (refusal 0)
 unfolding format2_of written_of arithmetic_op3 shift_op3 window_op3 flow_of is_known minus
 form_2 op3 rd rs1 x =
-    found_all (λ (key : ℕ) (f : Format2). written_of (f rd rd rs1 x) ≡ pick (is_known (flow_of (f 0 0 rs1 x))) (by_key key rd rs1 x) (Unfit 0)) rows2 none2 op3
+    found_all (λ (key : ℕ) (f : Format2). written_of (f rd rd rs1 x) ≡ pick (is_known (flow_of (f 0 0 rs1 x))) (by_key key rd rs1 x) (refusal 0)) rows2 none2 op3
     (refl, (refl, (refl, (refl, (refl, (refl, (refl, (refl, (refl, (refl, (refl, (refl, (refl, (refl, (refl, (refl, (refl, (refl, (refl, (refl, (refl, (refl, (refl, (refl, (refl, (refl, (refl, (refl, (refl, (refl, (refl, (refl, (refl, tt))))))))))))))))))))))))))))))))) refl
 
-pub form_3 : (op3 rd rs1 : ℕ) (x : Operand) → written_of (format3_of op3 rd rs1 x) ≡ pick (is_known (flow_of (format3_of op3 rd rs1 x))) (long_word 3 rd op3 rs1 x) (Unfit 0)
+pub form_3 : (op3 rd rs1 : ℕ) (x : Operand) → written_of (format3_of op3 rd rs1 x) ≡ pick (is_known (flow_of (format3_of op3 rd rs1 x))) (long_word 3 rd op3 rs1 x) (refusal 0)
 unfolding format3_of written_of load_op3 store_op3 flow_of is_known
 form_3 op3 rd rs1 x =
-    found_all (λ (key : ℕ) (f : Format3). written_of (f rd rs1 x) ≡ pick (is_known (flow_of (f rd rs1 x))) (long_word 3 rd key rs1 x) (Unfit 0)) rows3 none3 op3
+    found_all (λ (key : ℕ) (f : Format3). written_of (f rd rs1 x) ≡ pick (is_known (flow_of (f rd rs1 x))) (long_word 3 rd key rs1 x) (refusal 0)) rows3 none3 op3
     (refl, (refl, (refl, (refl, (refl, (refl, (refl, (refl, tt)))))))) refl
 
 -- numbers that fill an area

@@ -8,6 +8,7 @@ use native.Mathlib.Omega.{arith}
 use lib.Dec.{eqb, leb, ltb}
 use lib.ListN.{get_or}
 use borrow.Author.Tests.{lt-ltb, ltb-true, leb-true, ne_eqb, eqb-true, not-true}
+use Rattle.std.proofs.Common.{Ok, Err}
 use Rattle.numbers.specs.Choice.{pick}
 use Rattle.numbers.specs.Number.{Below, signed, number_at, bytes_of}
 use Rattle.numbers.proofs.Choice.{both, either, found_passes, found_all}
@@ -16,7 +17,7 @@ use Rattle.numbers.proofs.Bounds.{number_lt, extended_lt}
 use Rattle.words.proofs.Conditions.{bit_lt}
 use Rattle.words.specs.Conditions.{bit_of}
 use Rattle.words.specs.Reader.{bits, bit_set, operand_of, sources, rows0, format0_of, Format2, rows2, none2, format2_of, Format3, rows3, none3, format3_of, by_format, instruction_of}
-use Rattle.words.specs.Writer.{arithmetic_op3, shift_op3, window_op3, load_op3, store_op3, written_of}
+use Rattle.words.specs.Writer.{Written, refusal, arithmetic_op3, shift_op3, window_op3, load_op3, store_op3, written_of}
 use Rattle.words.specs.declared.Operand.{Operand}
 use Rattle.words.specs.declared.Operand.TheVariants.{Register, Constant}
 use Rattle.words.specs.declared.Operation.{Operation}
@@ -31,8 +32,6 @@ use Rattle.words.specs.declared.Width.{Width}
 use Rattle.words.specs.declared.Width.TheVariants.{Byte, Half, Word}
 use Rattle.words.specs.declared.Instruction.{Instruction}
 use Rattle.words.specs.declared.Instruction.TheVariants.{Illegal, Call, Sethi, Bicc, Arithmetic, Jmpl, Ticc, Load, Store, Shift, Rdy, Wry, Window}
-use Rattle.words.specs.declared.Written.{Written}
-use Rattle.words.specs.declared.Written.TheVariants.{Fit, Unfit}
 use Rattle.words.proofs.Strict.{left_strictly}
 use Rattle.words.proofs.RoundTrip.{in_bits, reads_back, writes_again}
 use Rattle.pijorrel_words.specs.Forms.{with_operand, six_of, operand_from, by_op, forms, instruction_from, answer_of, writes, reads}
@@ -99,14 +98,14 @@ module _ (form annul rd rs1 mark v : ℕ) (l : v < 2 ^ 32) where
       (λ e. by_op_lem (eqb (form / 64) 2) (eqb (form / 64) 3) refl refl) refl
 
 -- an answer that is a word
-fit_of : (w : Written) (word : ℕ) → answer_of w ≡ 0 ∷ word ∷ [] → w ≡ Fit word
+fit_of : (w : Written) (word : ℕ) → answer_of w ≡ 0 ∷ word ∷ [] → w ≡ Ok word
 unfolding answer_of
-fit_of (Fit k) word e = let h : k ≡ word = cc in rw h
-fit_of (Unfit n) word e = absurd (let h : ◌≡◌ {A = ℕ} 7 0 = cc in omega arith)
+fit_of (Ok k) word e = let h : k ≡ word = cc in rw h
+fit_of (Err n) word e = absurd (let h : ◌≡◌ {A = ℕ} 7 0 = cc in omega arith)
 
-not_illegal : (i : Instruction) (word : ℕ) → written_of i ≡ Fit word → i ≡ Illegal → ⊥
+not_illegal : (i : Instruction) (word : ℕ) → written_of i ≡ Ok word → i ≡ Illegal → ⊥
 unfolding written_of
-not_illegal i word e f = let g : Unfit 0 ≡ Fit word = rw f at e in let h : ◌≡◌ {A = ℕ} 0 1 = cc in omega arith
+not_illegal i word e f = let g : refusal 0 ≡ Ok word = rw f at e in let h : ◌≡◌ {A = ℕ} 0 1 = cc in omega arith
 
 pub reads_normal : ReadsBack
 unfolding writes reads normal

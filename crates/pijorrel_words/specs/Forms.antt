@@ -1,18 +1,16 @@
 -- An instruction as six numbers: its form; annul; rd or cond; rs1; 1 where the second operand is a constant, 0 where it is a register; and the
 -- constant, the second register's number or the displacement. The form is 64 op + op3, or 64 for call, 2 for Bicc and 4 for sethi. A number
 -- that the form does not have is 0 when read, and not looked at when written.
-use Rattle.std.specs.Prelude.{ℕ, ◌+◌, ◌/◌, ◌%◌, ◌^◌, not, List, [], ◌∷◌, eqb}
+use Rattle.std.specs.Prelude.{ℕ, ◌+◌, ◌/◌, ◌%◌, ◌^◌, not, List, [], ◌∷◌, Ok, Err, eqb}
 use Rattle.numbers.specs.Choice.{pick, find}
 use Rattle.numbers.specs.Number.{number_at, bytes_of}
 use Rattle.words.specs.Conditions.{bit_of}
 use Rattle.words.specs.Reader.{format2_of, format3_of, instruction_of}
-use Rattle.words.specs.Writer.{arithmetic_op3, shift_op3, window_op3, load_op3, store_op3, written_of}
+use Rattle.words.specs.Writer.{arithmetic_op3, shift_op3, window_op3, load_op3, store_op3, Written, written_of}
 use Rattle.words.specs.declared.Operand.{Operand}
 use Rattle.words.specs.declared.Operand.TheVariants.{Register, Constant}
 use Rattle.words.specs.declared.Instruction.{Instruction}
 use Rattle.words.specs.declared.Instruction.TheVariants.{Illegal, Call, Sethi, Bicc, Arithmetic, Jmpl, Ticc, Load, Store, Shift, Rdy, Wry, Window}
-use Rattle.words.specs.declared.Written.{Written}
-use Rattle.words.specs.declared.Written.TheVariants.{Fit, Unfit}
 
 -- form, rd or cond, rs1 and the second operand
 unfoldable pub with_operand : ℕ → ℕ → ℕ → Operand → List ℕ
@@ -50,8 +48,8 @@ instruction_from form annul rd rs1 mark v = find (forms annul rd v) (by_op form 
 
 -- 0 and the word, or 7 and the bits of the field
 unfoldable pub answer_of : Written → List ℕ
-answer_of (Fit word) = 0 ∷ word ∷ []
-answer_of (Unfit n) = 7 ∷ n ∷ []
+answer_of (Ok word) = 0 ∷ word ∷ []
+answer_of (Err e) = 7 ∷ e.0 ∷ []
 
 -- what `pijorrel_write` answers of 24 bytes, and what `pijorrel_read` leaves in them
 unfoldable pub writes : List ℕ → List ℕ

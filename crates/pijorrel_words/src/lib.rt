@@ -6,9 +6,10 @@ ghost use Rattle.words.specs.Reader.{format2_of};
 ghost use Rattle.words.specs.Writer.{written_of};
 ghost use Rattle.pijorrel_words.specs.Forms.{with_operand, six_of, operand_from, by_op, instruction_from, answer_of, writes, reads};
 
-use words::{Instruction, Operand, Written};
+use words::{Instruction, Operand, Sources, Unfit};
 
-// 0 and the word, or 7 and the bits of the field.
+// 0 and the word, or 7 and the bits of the field, as C has them. An instruction's six numbers (form, annul, rd, rs1, mark, value) are C's too:
+// below they become types and come of them, any numbers, known or not.
 #[repr(C)]
 #[derive(Clone, Copy)]
 pub struct PijorrelWritten {
@@ -16,25 +17,8 @@ pub struct PijorrelWritten {
     pub value: u32,
 }
 
-// The six numbers of an instruction.
-#[derive(Clone, Copy)]
-pub struct Six {
-    pub form: u32,
-    pub annul: u32,
-    pub rd: u32,
-    pub rs1: u32,
-    pub mark: u32,
-    pub value: u32,
-}
-
-// A register's number in 32 bits, as all that are read have.
-fn low32(i: usize) -> u32
-    ensures { result ≡ i % 4294967296 }
-{
-    (i % 4294967296) as u32
-}
-
 // Any mark but 0 is that of a constant.
+#[tactic(auto, unfolding(crate::specs::Forms::operand_from))]
 fn operand_from(mark: u32, v: u32) -> Operand
     ensures { result ≡ operand_from mark v }
 {
@@ -45,7 +29,8 @@ fn operand_from(mark: u32, v: u32) -> Operand
 }
 
 // The word of a form of format 2. It is put together by its op3: an instruction between would take that apart first.
-fn write2(op3: u32, rd: u32, rs1: u32, x: Operand) -> Written
+#[tactic(auto, using(crate::proofs::Laws::form_2))]
+fn write2(op3: u32, rd: u32, rs1: u32, x: Operand) -> Result<u32, Unfit>
     ensures { result ≡ written_of (format2_of op3 rd rd rs1 x) }
 {
     if flows::is_form2(op3) {
@@ -63,11 +48,12 @@ fn write2(op3: u32, rd: u32, rs1: u32, x: Operand) -> Written
         }
         return writer::long_word(2, rd, op3, rs1, x);
     }
-    Written::Unfit(0)
+    Err(Unfit(0))
 }
 
 // The word of a form of format 2 or 3.
-fn write_by_op(form: u32, rd: u32, rs1: u32, x: Operand) -> Written
+#[tactic(auto, using(crate::proofs::Laws::form_3), unfolding(crate::specs::Forms::by_op, words::specs::Writer::written_of))]
+fn write_by_op(form: u32, rd: u32, rs1: u32, x: Operand) -> Result<u32, Unfit>
     ensures { result ≡ written_of (by_op form rd rs1 x) }
 {
     let k = form / 64;
@@ -79,11 +65,11 @@ fn write_by_op(form: u32, rd: u32, rs1: u32, x: Operand) -> Written
             return writer::long_word(3, rd, form % 64, rs1, x);
         }
     }
-    Written::Unfit(0)
+    Err(Unfit(0))
 }
 
 // The word of six numbers.
-fn write_six(form: u32, annul: u32, rd: u32, rs1: u32, mark: u32, v: u32) -> Written
+fn write_six(form: u32, annul: u32, rd: u32, rs1: u32, mark: u32, v: u32) -> Result<u32, Unfit>
     ensures { result ≡ written_of (instruction_from form annul rd rs1 mark v) }
 {
     let a = annul != 0;
@@ -95,22 +81,20 @@ fn write_six(form: u32, annul: u32, rd: u32, rs1: u32, mark: u32, v: u32) -> Wri
     }
 }
 
-fn answer(w: Written) -> PijorrelWritten
-    ensures { result.number ∷ result.value ∷ [] ≡ answer_of w }
-{
-    match w {
-        Written::Fit(word) => PijorrelWritten {
-            number: 0,
-            value: word,
-        },
-        Written::Unfit(n) => PijorrelWritten {
-            number: 7,
-            value: n,
-        },
+impl From<Result<u32, Unfit>> for PijorrelWritten {
+    ghost from_gives = { λ w r. r.number ∷ r.value ∷ [] ≡ answer_of w };
+
+    #[tactic(auto, unfolding(crate::specs::Forms::answer_of))]
+    fn from(w: Result<u32, Unfit>) -> PijorrelWritten {
+        match w {
+            Ok(value) => PijorrelWritten { number: 0, value },
+            Err(Unfit(value)) => PijorrelWritten { number: 7, value },
+        }
     }
 }
 
 // The word of an instruction, or a refusal.
+#[tactic(auto, unfolding(crate::specs::Forms::writes))]
 pub fn pijorrel_write(instruction: &[u8; 24]) -> PijorrelWritten
     ensures { result.number ∷ result.value ∷ [] ≡ writes instruction.now }
 {
@@ -120,57 +104,35 @@ pub fn pijorrel_write(instruction: &[u8; 24]) -> PijorrelWritten
     let rs1 = numbers::read_number(instruction, 12);
     let mark = numbers::read_number(instruction, 16);
     let v = numbers::read_number(instruction, 20);
-    answer(write_six(form, annul, rd, rs1, mark, v))
+    PijorrelWritten::from(write_six(form, annul, rd, rs1, mark, v))
 }
 
-// A form without a second operand, and one with it.
-fn plain_six(form: u32, annul: u32, rd: u32, v: u32) -> Six
-    ensures { result.form ∷ result.annul ∷ result.rd ∷ result.rs1 ∷ result.mark ∷ result.value ∷ [] ≡ form ∷ annul ∷ rd ∷ 0 ∷ 0 ∷ v ∷ [] }
+// The six numbers of a form without a second operand, and of one with it.
+fn plain_six(form: u32, annul: u32, rd: u32, v: u32) -> [u32; 6]
+    ensures { result ≡ form ∷ annul ∷ rd ∷ 0 ∷ 0 ∷ v ∷ [] }
 {
-    Six {
-        form,
-        annul,
-        rd,
-        rs1: 0,
-        mark: 0,
-        value: v,
-    }
+    [form, annul, rd, 0, 0, v]
 }
 
-fn six_with(form: u32, rd: u32, rs1: u32, x: Operand) -> Six
-    ensures { result.form ∷ result.annul ∷ result.rd ∷ result.rs1 ∷ result.mark ∷ result.value ∷ [] ≡ with_operand form rd rs1 x }
+#[tactic(auto, unfolding(crate::specs::Forms::with_operand))]
+fn six_with(form: u32, rd: u32, rs1: u32, x: Operand) -> [u32; 6]
+    ensures { result ≡ with_operand form rd rs1 x }
 {
     match x {
-        Operand::Register(i) => {
-            let k = low32(i);
-            Six {
-                form,
-                annul: 0,
-                rd,
-                rs1,
-                mark: 0,
-                value: k,
-            }
-        }
-        Operand::Constant(k) => Six {
-            form,
-            annul: 0,
-            rd,
-            rs1,
-            mark: 1,
-            value: k,
-        },
+        Operand::Register(i) => [form, 0, rd, rs1, 0, (i % (1 << 32)) as u32],
+        Operand::Constant(k) => [form, 0, rd, rs1, 1, k],
     }
 }
 
-fn six_of(i: Instruction) -> Six
-    ensures { result.form ∷ result.annul ∷ result.rd ∷ result.rs1 ∷ result.mark ∷ result.value ∷ [] ≡ six_of i }
+#[tactic(auto, using(words::proofs::Conditions::one_bit), unfolding(crate::specs::Forms::six_of))]
+fn six_of(i: Instruction) -> [u32; 6]
+    ensures { result ≡ six_of i }
 {
     match i {
         Instruction::Illegal => plain_six(0, 0, 0, 0),
         Instruction::Call(disp) => plain_six(64, 0, 0, disp),
         Instruction::Sethi(rd, imm) => plain_six(4, 0, rd, imm),
-        Instruction::Bicc(cond, annul, disp) => plain_six(2, writer::one_bit(annul), cond, disp),
+        Instruction::Bicc(cond, annul, disp) => plain_six(2, u32::from(annul), cond, disp),
         Instruction::Arithmetic(o, cc, rd, rs1, x) => six_with(
             128 + writer::arithmetic_op3(o, cc),
             rd,
@@ -183,19 +145,16 @@ fn six_of(i: Instruction) -> Six
         Instruction::Store(w, rd, rs1, x) => six_with(192 + writer::store_op3(w), rd, rs1, x),
         Instruction::Shift(o, rd, rs1, x) => six_with(128 + writer::shift_op3(o), rd, rs1, x),
         Instruction::Rdy(rd) => plain_six(168, 0, rd, 0),
-        Instruction::Wry(s) => {
-            let x = s.operand;
-            six_with(176, 0, s.rs1, x)
-        }
+        Instruction::Wry(Sources { rs1, operand }) => six_with(176, 0, rs1, operand),
         Instruction::Window(o, rd, rs1, x) => six_with(128 + writer::window_op3(o), rd, rs1, x),
     }
 }
 
 // The six numbers of the instruction that a word reads as; six zeros where it is not known.
+#[tactic(auto, unfolding(crate::specs::Forms::reads))]
 pub fn pijorrel_read(word: u32, instruction: &mut [u8; 24])
     ensures { instruction.new ≡ reads word }
 {
-    let s = six_of(words::read_instruction(word));
-    let list = [s.form, s.annul, s.rd, s.rs1, s.mark, s.value];
+    let list = six_of(words::read_instruction(word));
     numbers::write_numbers(instruction, 0, &list);
 }

@@ -3,8 +3,9 @@ use Rattle.numbers.specs.Number.{up_to}
 use Rattle.numbers.specs.Choice.{pick}
 use Rattle.model.proofs.Members.{same_eq}
 use Rattle.model.specs.declared.Place.{Place}
-use Rattle.model.specs.Places.{place_at, next_of, same_place, member}
-use borrow.Author.Tests.{ltb-false, eqb-true, eqb-false}
+use Rattle.model.specs.Places.{same_place, member}
+use borrow.Author.Tests.{lt-ltb, le-ltb, ltb-false, eqb-true, eqb-false}
+use Rattle.std.specs.Prelude.{Some, None, is_some}
 use lib.Seq.{get_or-set_same, get_or-set_other}
 use lib.ListN.{length, get_or, set, replicate, length-set, length-replicate, get_or-replicate}
 use lib.Dec.{eqb, ltb, leb-suc-suc, leb-zero}
@@ -15,25 +16,17 @@ use mathlib.Core.Logic.{◌⊎◌, inl, inr, ⊎_elim}
 use mathlib.Core.List.{List, [], ◌∷◌, ◌++◌}
 use mathlib.Core.Bool.{Bool, true, false, false≢true}
 use mathlib.Core.Path.{◌≡◌, refl, sym, ap, ◌∙◌}
-use Prim.Native.Nat.{ℕ, zero, suc, ◌+◌, ◌*◌, ◌-◌, ◌^◌, ◌≤◌, ◌<◌}
-use Rattle.places.specs.Table.{place_of, Shows, place_in, ShowsIn, SameRow, places_in, put_place, number_of}
-use Rattle.places.specs.Index.{hash_of, hash, last, Indexed, Ready}
-use Rattle.places.proofs.Rows.{at_place, differ, place_same, shows_same, place_put, shows_put, place_below, row_below, length_row, length_places}
+use Prim.Native.Nat.{ℕ, zero, suc, ◌+◌, ◌*◌, ◌-◌, ◌≤◌, ◌<◌}
+use Rattle.places.specs.Table.{Narrow, place_in, ShowsIn, SameRow, places_in, put_place, number_of, found}
+use Rattle.places.specs.Index.{hash, last, Indexed, Ready}
+use Rattle.places.proofs.Rows.{differ, place_same, shows_same, place_put, shows_put, place_below, row_below, length_row, length_places}
 
 other_hash : (x y : Place) → (hash x ≡ hash y → ⊥) → same_place x y ≡ false
 other_hash x y n = differ x y (λ e. n (ap hash e))
 
-pub hash_lt : (p n : ℕ) → hash_of p n < 8192
-unfolding hash_of
-hash_lt p n = omega arith
-
-place_lt : (x : Place) → hash x < 8192
+pub hash_lt : (x : Place) → hash x < 8192
 unfolding hash
-place_lt x = hash_lt (place_at x) (next_of x)
-
-pub hash_of_lem : (p n k : ℕ) → Shows p n k → hash_of p n ≡ hash (place_of p n k)
-unfolding hash
-hash_of_lem p n k s = rw (at_place p n k, s.its_next)
+hash_lt x = omega arith
 
 -- a place is in a list exactly if its number is below the list's length
 pub member_number : (x : Place) (ps : List Place) → member ps x ≡ ltb (number_of x ps) (length ps)
@@ -183,7 +176,7 @@ module _ (x : Place) (t : List ℕ) (count : ℕ) where
 
   module _ (heads links : List ℕ) (i : Indexed t count heads links) where
     pub seeking_start : (h : ℕ) → h ≡ hash x → Seeking x t count (get_or heads h 0)
-    seeking_start h e = seeking_from count (get_or heads h 0) (omega arith) (low_all x t count) (rw e (i.head (hash x) (place_lt x)))
+    seeking_start h e = seeking_from count (get_or heads h 0) (omega arith) (low_all x t count) (rw e (i.head (hash x) (hash_lt x)))
 
     pub seeking_next : (j : ℕ) → Seeking x t count j → 0 < j → same_place (place_in t (j - 1)) x ≡ false
         → Seeking x t count (get_or links (j - 1) 0)
@@ -201,8 +194,27 @@ module _ (x : Place) (t : List ℕ) (count : ℕ) where
         not_there t (j - 1) x (λ k b. rw q at (i.apart k (j - 1) b (omega arith))) in
         sym ((rw e at (back j c l)) ∙ rw m)
 
+    -- the same of the place whose number is one less
+    pub here_hit : (k : ℕ) → Seeking x t count (suc k) → same_place (place_in t k) x ≡ true → k ≡ number_of x (places_in t count)
+    here_hit k c e = let p : suc k - 1 ≡ k = omega arith in rw p at (seeking_hit (suc k) c (omega arith) (rw p e))
+
+    pub here_next : (k : ℕ) → Seeking x t count (suc k) → same_place (place_in t k) x ≡ false → Seeking x t count (get_or links k 0)
+    here_next k c e = let p : suc k - 1 ≡ k = omega arith in rw p at (seeking_next (suc k) c (omega arith) (rw p e))
+
+    pub here_less : (k : ℕ) → Seeking x t count (suc k) → get_or links k 0 < suc k
+    here_less k c = let p : suc k - 1 ≡ k = omega arith in rw p at (seeking_less (suc k) c (omega arith))
+
   pub seeking_end : (j : ℕ) → Seeking x t count j → j ≤ 0 → count ≡ number_of x (places_in t count)
   seeking_end j c l = let e : j ≡ 0 = omega arith in sym (c.1 ∙ rw e (low_none x t count))
+
+  -- what was looked for, as it was found
+  pub found_at : (i : ℕ) → i < count → i ≡ number_of x (places_in t count) → Some i ≡ found x (places_in t count)
+  unfolding found
+  found_at i h e = rw (← e, length_places t count, lt-ltb i count h)
+
+  pub found_none : count ≡ number_of x (places_in t count) → None ≡ found x (places_in t count)
+  unfolding found
+  found_none e = rw (← e, length_places t count, le-ltb count count (omega arith))
 
 -- an empty index
 pub index_none : (t : List ℕ) → Indexed t 0 (replicate 8192 0) (replicate 8192 0)
@@ -233,48 +245,44 @@ index_same t m heads links n s x =
     e i l = sym (place_same m t i (s i l))
 
 -- the index with one place more, which was not there
-module _ (t : List ℕ) (n p q k : ℕ) (heads links : List ℕ) (old : Indexed t n heads links) (room : n < 8192) (h : 16 * n + 16 ≤ length t)
-    (bp : p < 2 ^ 32) (bq : q < 2 ^ 32) (bk : k < 2 ^ 32) (s : Shows p q k) (new : member (places_in t n) (place_of p q k) ≡ false) where
-  abbrev x : Place
-  x = place_of p q k
-
+module _ (t : List ℕ) (n : ℕ) (x : Place) (heads links : List ℕ) (old : Indexed t n heads links) (room : n < 8192) (h : 16 * n + 16 ≤ length t)
+    (b : Narrow x) (new : member (places_in t n) x ≡ false) where
   abbrev t+ : List ℕ
-  t+ = put_place t n p q k
+  t+ = put_place t n x
 
   there : place_in t+ n ≡ x
-  there = place_put t n p q k h bp bq bk
+  there = place_put t n x h b
 
   kept : (i m : ℕ) → i ≤ n → last t+ i m ≡ last t i m
-  kept i m le = last_same t+ t i m (λ j b. place_below t n p q k j (omega arith))
+  kept i m le = last_same t+ t i m (λ j l. place_below t n x j (omega arith))
 
   heads_at : (m : ℕ) → m < 8192 → (c : Bool) → eqb (hash x) m ≡ c → get_or (set heads (hash x) (n + 1)) m 0 ≡ pick c (suc n) (last t n m)
   heads_at m l true e =
-      rw (← eqb-true (hash x) m e) (get_or-set_same heads (hash x) (n + 1) 0 (omega (arith, place_lt x, old.head_room)) ∙ add-one n)
+      rw (← eqb-true (hash x) m e) (get_or-set_same heads (hash x) (n + 1) 0 (omega (arith, hash_lt x, old.head_room)) ∙ add-one n)
   heads_at m l false e = get_or-set_other heads (hash x) m (n + 1) 0 (λ q. eqb-false (hash x) m e (sym q)) ∙ old.head m l
 
   links_at : (i : ℕ) → (i ≡ n) ⊎ (i < n) → get_or (set links n (get_or heads (hash x) 0)) i 0 ≡ last t+ i (hash (place_in t+ i))
   links_at i (inl e) =
-      rw (e, there) (get_or-set_same links n (get_or heads (hash x) 0) 0 (omega (arith, old.link_room)) ∙ old.head (hash x) (place_lt x)
+      rw (e, there) (get_or-set_same links n (get_or heads (hash x) 0) 0 (omega (arith, old.link_room)) ∙ old.head (hash x) (hash_lt x)
       ∙ sym (kept n (hash x) (omega arith)))
   links_at i (inr m) =
       get_or-set_other links n i (get_or heads (hash x) 0) 0 (omega arith) ∙ old.link i m
-      ∙ rw (place_below t n p q k i m) (sym (kept i (hash (place_in t i)) (omega arith)))
+      ∙ rw (place_below t n x i m) (sym (kept i (hash (place_in t i)) (omega arith)))
 
   shows_at : (i : ℕ) → (i ≡ n) ⊎ (i < n) → ShowsIn t+ i
-  shows_at i (inl e) = rw e (shows_put t n p q k h bp bq bk s)
-  shows_at i (inr m) = shows_same t+ t i (row_below t n p q k i m) (old.shows i m)
+  shows_at i (inl e) = rw e (shows_put t n x h b)
+  shows_at i (inr m) = shows_same t+ t i (row_below t n x i m) (old.shows i m)
 
   apart_at : (i j : ℕ) → i < j → (j ≡ n) ⊎ (j < n) → same_place (place_in t+ i) (place_in t+ j) ≡ false
-  apart_at i j l (inl e) = rw (e, there, place_below t n p q k i (omega arith)) (none_there t n x new i (omega arith))
-  apart_at i j l (inr m) = rw (place_below t n p q k i (omega arith), place_below t n p q k j m) (old.apart i j l m)
+  apart_at i j l (inl e) = rw (e, there, place_below t n x i (omega arith)) (none_there t n x new i (omega arith))
+  apart_at i j l (inr m) = rw (place_below t n x i (omega arith), place_below t n x j m) (old.apart i j l m)
 
   at_most : (i : ℕ) → i < n + 1 → (i ≡ n) ⊎ (i < n)
   at_most i l = eq-or-lt_of_le (le_of_suc-le-suc (rw add-one at l))
 
-  index_put : Indexed t+ (n + 1) (set heads (hash_of p q) (n + 1)) (set links n (get_or heads (hash_of p q) 0))
+  index_put : Indexed t+ (n + 1) (set heads (hash x) (n + 1)) (set links n (get_or heads (hash x) 0))
   unfolding last
   index_put =
-      rw (hash_of_lem p q k s)
       record {
         head_room = length-set heads (hash x) (n + 1) ∙ old.head_room;
         link_room = length-set links n (get_or heads (hash x) 0) ∙ old.link_room;
@@ -285,13 +293,47 @@ module _ (t : List ℕ) (n p q k : ℕ) (heads links : List ℕ) (old : Indexed 
       }
 
 -- a table ready for more, with one place more
-pub ready_put : {room : ℕ} {t : List ℕ} {n : ℕ} (p q k : ℕ) (heads links : List ℕ) → Ready room t n heads links → n < room → p < 2 ^ 32 → q < 2 ^ 32
-    → k < 2 ^ 32 → Shows p q k → member (places_in t n) (place_of p q k) ≡ false
-    → Ready room (put_place t n p q k) (n + 1) (set heads (hash_of p q) (n + 1)) (set links n (get_or heads (hash_of p q) 0))
-ready_put {room} {t} {n} p q k heads links x m bp bq bk s new =
+pub ready_put : {room : ℕ} {t : List ℕ} {n : ℕ} {heads links : List ℕ} (x : Place) → Ready room t n heads links → n < room → Narrow x
+    → member (places_in t n) x ≡ false
+    → Ready room (put_place t n x) (n + 1) (set heads (hash x) (n + 1)) (set links n (get_or heads (hash x) 0))
+ready_put {room} {t} {n} {heads} {links} x r m b new =
     record {
       within = omega arith;
-      fits = rw (length_row t n p q k) x.fits;
-      few = x.few;
-      index = index_put t n p q k heads links x.index (omega arith) (omega arith) bp bq bk s new;
+      fits = rw (length_row t n x) r.fits;
+      few = r.few;
+      index = index_put t n x heads links r.index (omega arith) (omega arith) b new;
     }
+
+-- a table whose places are the same
+pub ready_same : {room : ℕ} {t : List ℕ} {n : ℕ} {heads links : List ℕ} (m : List ℕ) → length m ≡ length t → ((i : ℕ) → i < n → SameRow m t i)
+    → Ready room t n heads links → Ready room m n heads links
+ready_same {room} {t} {n} {heads} {links} m l s r =
+    record { within = r.within; fits = rw l r.fits; few = r.few; index = index_same t m heads links n s r.index }
+
+-- what was looked for is a member of the list exactly where it was found
+pub found_member : (x : Place) (ps : List Place) → is_some (found x ps) ≡ member ps x
+unfolding found
+found_member x ps = sym (member_number x ps ∙ go (ltb (number_of x ps) (length ps)))
+  where
+    go : (b : Bool) → b ≡ is_some (pick b (Some (number_of x ps)) None)
+    go true = refl
+    go false = refl
+
+-- what was found, by its number
+module _ (x : Place) (ps : List Place) where
+  pub found_some : {i : ℕ} → Some i ≡ found x ps → (i ≡ number_of x ps) × (ltb (number_of x ps) (length ps) ≡ true)
+  unfolding found
+  found_some {i} e = go (ltb (number_of x ps) (length ps)) refl e
+    where
+      go : (b : Bool) → ltb (number_of x ps) (length ps) ≡ b → Some i ≡ pick b (Some (number_of x ps)) None
+          → (i ≡ number_of x ps) × (ltb (number_of x ps) (length ps) ≡ true)
+      go true t h = (cc, t)
+      go false t h = cc
+
+  pub found_nothing : None ≡ found x ps → ltb (number_of x ps) (length ps) ≡ false
+  unfolding found
+  found_nothing e = go (ltb (number_of x ps) (length ps)) refl e
+    where
+      go : (b : Bool) → ltb (number_of x ps) (length ps) ≡ b → None ≡ pick b (Some (number_of x ps)) None → ltb (number_of x ps) (length ps) ≡ false
+      go true t h = cc
+      go false t h = t

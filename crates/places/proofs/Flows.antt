@@ -1,8 +1,8 @@
 -- Laws of what a word does to control.
 use Rattle.numbers.proofs.Choice.{either}
 use Rattle.numbers.specs.Choice.{pick}
-use Rattle.model.specs.Places.{which_of, idle_bicc, Which, never, always, depends}
-use Rattle.model.specs.OldCore.{word_in, transfer_of, Transfer, straight, trap, jmpl}
+use Rattle.model.specs.Places.{unimp_in, which_of, idle_bicc, Which, never, always, depends}
+use Rattle.model.specs.OldCore.{word_in, word_of, transfer_of, Transfer, straight, trap, jmpl}
 use lib.Dec.{eqb}
 use mathlib.Core.List.{List}
 use mathlib.Core.Option.{none, some}
@@ -15,9 +15,9 @@ use Rattle.words.specs.declared.Instruction.TheVariants.{Illegal, Call, Sethi, B
 use Rattle.words.specs.declared.Instruction.{Instruction}
 use Rattle.words.specs.declared.Flow.TheVariants.{Traps, Continues}
 use Rattle.words.specs.Flow.{flow_of}
-use Rattle.places.specs.declared.control.Fetched.{Fetched}
-use Rattle.places.specs.declared.control.Fetched.TheVariants.{Word, Outside}
-use Rattle.places.specs.Control.{word_of, transferred}
+use Rattle.std.specs.Prelude.{Option, Some, None, MatchOption}
+use Rattle.words.specs.Reader.{is_unimp}
+use Rattle.places.specs.Control.{transferred}
 
 -- what does not look at a jmpl's operands can be had from the flow alone
 pub by_flow : {A : Type 0} (f : Transfer → A) → ((rd rs1 : ℕ) (x : Operand) → f (jmpl rd rs1 x) ≡ f (jmpl rd 0 (Constant 0)))
@@ -50,12 +50,23 @@ idle cond annul h = rw h (by_cond (eqb cond 0))
     by_cond true = refl
     by_cond false = sym (either (λ (w : Which). idle_bicc w false ≡ false) (eqb cond 8) always depends refl refl)
 
+-- what is asked of the word of an address, and false where there is none
+pub unimp_fetched : (image : List ℕ) (base p : ℕ) (f : Option ℕ) {r : Bool} → word_of f ≡ word_in image base p
+    → MatchOption f (r ≡ false) (λ w. r ≡ is_unimp w) → r ≡ unimp_in (word_in image base p)
+unfolding word_of unimp_in
+unimp_fetched image base p f {r} e h = rw (← e) (go f h)
+  where
+    go : (o : Option ℕ) → MatchOption o (r ≡ false) (λ w. r ≡ is_unimp w) → r ≡ unimp_in (word_of o)
+    go (Some w) k = k
+    go None k = k
+
 -- the word of an address, as it was fetched
-module _ (image : List ℕ) (base p : ℕ) {f : Fetched} (e : word_of f ≡ word_in image base p) where
-  pub fetched_none : f ≡ Outside → word_in image base p ≡ none
+module _ (image : List ℕ) (base p : ℕ) {f : Option ℕ} (e : word_of f ≡ word_in image base p) where
+  pub fetched_none : f ≡ None → word_in image base p ≡ none
   unfolding word_of
   fetched_none h = sym (rw h at e)
 
-  pub fetched_some : {word : ℕ} → f ≡ Word word → word_in image base p ≡ some word
+  pub fetched_some : {word : ℕ} → f ≡ Some word → word_in image base p ≡ some word
   unfolding word_of
   fetched_some h = sym (rw h at e)
+  -- what is asked of it, and false where there is none

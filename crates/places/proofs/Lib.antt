@@ -1,3 +1,4 @@
 pub mod Flows
 pub mod Rows
 pub mod Chains
+pub mod Lending

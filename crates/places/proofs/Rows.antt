@@ -2,27 +2,27 @@
 use Rattle.numbers.proofs.Lists.{length_up}
 use Rattle.numbers.proofs.Number.{length_put}
 use Rattle.numbers.proofs.Choice.{either}
-use Rattle.numbers.proofs.Areas.{number_put, number_before}
+use Rattle.numbers.proofs.Areas.{number_put, number_before, number_after}
 use Rattle.numbers.specs.Number.{plus, number_at, put_number, up_to}
 use Rattle.numbers.specs.Choice.{pick}
 use Rattle.model.proofs.Members.{same_self, same_eq}
 use Rattle.model.specs.declared.Place.TheVariants.{Pair, Held}
 use Rattle.model.specs.declared.Place.{Place}
-use Rattle.model.specs.Places.{plain, kind_of, next_of, place_at, same_place}
-use borrow.Author.Tests.{eq-eqb, eqb-true, eqb-false}
+use Rattle.model.specs.Places.{kind_of, next_of, place_at, same_place}
+use borrow.Author.Tests.{eqb-true, eqb-false, leb-true, leb-false}
 use lib.ListN.{length}
-use lib.Dec.{eqb}
+use lib.Dec.{eqb, leb}
 use native.Mathlib.Numerals.{add-one}
 use native.Mathlib.Omega.{arith}
 use mathlib.Core.List.{List, [], ◌∷◌, ◌++◌}
 use mathlib.Core.Bool.{Bool, true, false}
 use mathlib.Core.Path.{◌≡◌, refl, sym, ap, ◌∙◌}
-use Prim.Native.Nat.{ℕ, zero, suc, ◌+◌, ◌*◌, ◌^◌, ◌≤◌, ◌<◌}
-use Rattle.places.specs.Table.{place_of, Shows, place_in, ShowsIn, SameRow, places_in, put_place}
+use Prim.Native.Nat.{ℕ, zero, suc, ◌+◌, ◌*◌, ◌≤◌, ◌<◌}
+use Rattle.places.specs.Table.{place_of, Shows, Narrow, place_in, ShowsIn, SameRow, places_in, put_place}
 
-pub length_row : (l : List ℕ) (i p n k : ℕ) → length (put_place l i p n k) ≡ length l
+pub length_row : (l : List ℕ) (i : ℕ) (x : Place) → length (put_place l i x) ≡ length l
 unfolding put_place
-length_row l i p n k = simp length_put
+length_row l i x = simp length_put
 
 pub length_places : (l : List ℕ) (n : ℕ) → length (places_in l n) ≡ n
 unfolding places_in
@@ -42,34 +42,24 @@ place_same l m i s = rw (s.0, s.1, s.2)
 pub shows_same : (l m : List ℕ) (i : ℕ) → SameRow l m i → ShowsIn m i → ShowsIn l i
 shows_same l m i s h = rw (s.0, s.1, s.2) h
 
--- the address of a place, and the numbers of plain, slot and held ones
+-- the address of a place
 pub at_place : (p n k : ℕ) → place_at (place_of p n k) ≡ p
 unfolding place_of place_at
 at_place p n k = either (λ (x : Place). place_at x ≡ p) (eqb k 2) (Held p) (Pair p n) refl refl
 
-pub place_plain : (p : ℕ) → place_of p (plus p 4) 0 ≡ plain p
-unfolding place_of
-place_plain p = refl
+-- a place is told by its numbers
+place_numbers : (x : Place) → place_of (place_at x) (next_of x) (kind_of x) ≡ x
+unfolding place_of place_at next_of kind_of
+place_numbers (Pair p n) = either (λ (k : ℕ). pick (eqb k 2) (Held p) (Pair p n) ≡ Pair p n) (eqb n (plus p 4)) 0 1 refl refl
+place_numbers (Held p) = refl
 
-pub shows_plain : (p : ℕ) → Shows p (plus p 4) 0
-unfolding place_of next_of kind_of
-shows_plain p = record { its_next = refl; its_kind = rw (eq-eqb (plus p 4) (plus p 4) refl) }
+shows_numbers : (x : Place) → Shows (place_at x) (next_of x) (kind_of x)
+shows_numbers x = record { its_next = ap next_of (place_numbers x); its_kind = ap kind_of (place_numbers x) }
 
-pub place_held : (p : ℕ) → place_of p 0 2 ≡ Held p
-unfolding place_of
-place_held p = refl
-
-pub shows_held : (p : ℕ) → Shows p 0 2
-unfolding place_of next_of kind_of
-shows_held p = record { its_next = refl; its_kind = refl }
-
-pub place_pair : (p n : ℕ) {k : ℕ} → k ≡ kind_of (Pair p n) → place_of p n k ≡ Pair p n
-unfolding place_of kind_of
-place_pair p n e = rw e (either (λ (k : ℕ). pick (eqb k 2) (Held p) (Pair p n) ≡ Pair p n) (eqb n (plus p 4)) 0 1 refl refl)
-
-pub shows_pair : (p n : ℕ) {k : ℕ} → k ≡ kind_of (Pair p n) → Shows p n k
-unfolding next_of
-shows_pair p n e = record { its_next = rw (place_pair p n e); its_kind = rw (place_pair p n e) (sym e) }
+kind_le : (x : Place) → kind_of x ≤ 2
+unfolding kind_of
+kind_le (Pair p n) = either (λ (k : ℕ). k ≤ 2) (eqb n (plus p 4)) 0 1 (omega arith) (omega arith)
+kind_le (Held p) = omega arith
 
 -- places by their numbers: the same exactly if all three are
 pub differ : (x y : Place) → (x ≡ y → ⊥) → same_place x y ≡ false
@@ -79,70 +69,94 @@ differ x y n = go (same_place x y) refl
     go true e = absurd (n (same_eq x y e))
     go false e = e
 
-module _ (a b c p n k : ℕ) where
-  pub other_address : (a ≡ p → ⊥) → same_place (place_of a b c) (place_of p n k) ≡ false
-  other_address h = differ (place_of a b c) (place_of p n k) (λ e. h (sym (at_place a b c) ∙ ap place_at e ∙ at_place p n k))
+-- row i is a place exactly if its three numbers are the place's
+module _ (l : List ℕ) (i : ℕ) (x : Place) (s : ShowsIn l i) where
+  pub other_address : {a p : ℕ} → a ≡ number_at l (16 * i) → p ≡ place_at x → (a ≡ p → ⊥) → false ≡ same_place (place_in l i) x
+  unfolding place_in
+  other_address e f h =
+      sym (differ (place_in l i) x (λ y. h (e ∙ sym (at_place (number_at l (16 * i)) (number_at l (16 * i + 4)) (number_at l (16 * i + 8))) ∙ ap place_at y ∙ sym f)))
 
-  module _ (s : Shows a b c) (t : Shows p n k) where
-    pub other_next : (b ≡ n → ⊥) → same_place (place_of a b c) (place_of p n k) ≡ false
-    other_next h = differ (place_of a b c) (place_of p n k) (λ e. h (sym s.its_next ∙ ap next_of e ∙ t.its_next))
+  pub other_next : {b n : ℕ} → b ≡ number_at l (16 * i + 4) → n ≡ next_of x → eqb b n ≡ false → false ≡ same_place (place_in l i) x
+  unfolding place_in
+  other_next {b} {n} e f h = sym (differ (place_in l i) x (λ y. eqb-false b n h (e ∙ sym s.its_next ∙ ap next_of y ∙ sym f)))
 
-    pub by_kind : a ≡ p → b ≡ n → eqb c k ≡ same_place (place_of a b c) (place_of p n k)
-    by_kind d e = go (eqb c k) refl
+  module _ {a p b n : ℕ} (ea : a ≡ number_at l (16 * i)) (ep : p ≡ place_at x) (h : a ≡ p) (eb : b ≡ number_at l (16 * i + 4)) (en : n ≡ next_of x)
+      (g : eqb b n ≡ true) where
+    pub by_kind : {c k : ℕ} → c ≡ number_at l (16 * i + 8) → k ≡ kind_of x → eqb c k ≡ same_place (place_in l i) x
+    unfolding place_in
+    by_kind {c} {k} ec ek = go (eqb c k) refl
       where
-        go : (v : Bool) → eqb c k ≡ v → v ≡ same_place (place_of a b c) (place_of p n k)
-        go true f = rw (d, e, eqb-true c k f) (sym (same_self (place_of p n k)))
-        go false f =
-            sym (differ (place_of a b c) (place_of p n k) (λ g. eqb-false c k f (sym s.its_kind ∙ ap kind_of g ∙ t.its_kind)))
+        go : (v : Bool) → eqb c k ≡ v → v ≡ same_place (place_in l i) x
+        go true f = rw (← ea, ← eb, ← ec, eqb-true c k f, h, eqb-true b n g, ep, en, ek, place_numbers x) (sym (same_self x))
+        go false f = sym (differ (place_in l i) x (λ y. eqb-false c k f (ec ∙ sym s.its_kind ∙ ap kind_of y ∙ sym ek)))
+
+-- a first record put in row i: the places stay
+pub first_kept : (l : List ℕ) (i v : ℕ) (j : ℕ) → SameRow (put_number l (16 * i + 12) v) l j
+first_kept l i v j = go (leb j i) refl
+  where
+    go : (b : Bool) → leb j i ≡ b → SameRow (put_number l (16 * i + 12) v) l j
+    go true e =
+        let h : j ≤ i = leb-true j i e in (
+          number_before l (16 * i + 12) v (16 * j) (omega arith),
+          number_before l (16 * i + 12) v (16 * j + 4) (omega arith),
+          number_before l (16 * i + 12) v (16 * j + 8) (omega arith),
+        )
+    go false e =
+        let h : i < j = leb-false j i e in (
+          number_after l (16 * i + 12) v (16 * j) (omega arith),
+          number_after l (16 * i + 12) v (16 * j + 4) (omega arith),
+          number_after l (16 * i + 12) v (16 * j + 8) (omega arith),
+        )
 
 -- a row that was put
-module _ (l : List ℕ) (i p n k : ℕ) where
+module _ (l : List ℕ) (i : ℕ) (x : Place) where
   abbrev t1 : List ℕ
-  t1 = put_number l (16 * i) p
+  t1 = put_number l (16 * i) (place_at x)
 
   abbrev t2 : List ℕ
-  t2 = put_number t1 (16 * i + 4) n
+  t2 = put_number t1 (16 * i + 4) (next_of x)
 
   -- what stands before the row stays
-  number_below : (m : ℕ) → m + 4 ≤ 16 * i → number_at (put_place l i p n k) m ≡ number_at l m
+  number_below : (m : ℕ) → m + 4 ≤ 16 * i → number_at (put_place l i x) m ≡ number_at l m
   unfolding put_place
   number_below m h =
-      number_before t2 (16 * i + 8) k m (omega arith) ∙ number_before t1 (16 * i + 4) n m (omega arith)
-      ∙ number_before l (16 * i) p m (omega arith)
+      number_before t2 (16 * i + 8) (kind_of x) m (omega arith) ∙ number_before t1 (16 * i + 4) (next_of x) m (omega arith)
+      ∙ number_before l (16 * i) (place_at x) m (omega arith)
 
-  pub row_below : (j : ℕ) → j < i → SameRow (put_place l i p n k) l j
+  pub row_below : (j : ℕ) → j < i → SameRow (put_place l i x) l j
   row_below j h =
       (number_below (16 * j) (omega arith), number_below (16 * j + 4) (omega arith), number_below (16 * j + 8) (omega arith))
 
-  pub place_below : (j : ℕ) → j < i → place_in (put_place l i p n k) j ≡ place_in l j
-  place_below j h = place_same (put_place l i p n k) l j (row_below j h)
+  pub place_below : (j : ℕ) → j < i → place_in (put_place l i x) j ≡ place_in l j
+  place_below j h = place_same (put_place l i x) l j (row_below j h)
 
-  module _ (h : 16 * i + 16 ≤ length l) (bp : p < 2 ^ 32) (bn : n < 2 ^ 32) (bk : k < 2 ^ 32) where
-    put_address : number_at (put_place l i p n k) (16 * i) ≡ p
+  module _ (h : 16 * i + 16 ≤ length l) (b : Narrow x) where
+    put_address : number_at (put_place l i x) (16 * i) ≡ place_at x
     unfolding put_place
     put_address =
-        number_before t2 (16 * i + 8) k (16 * i) (omega arith) ∙ number_before t1 (16 * i + 4) n (16 * i) (omega arith)
-        ∙ number_put l (16 * i) p (omega arith) bp
+        number_before t2 (16 * i + 8) (kind_of x) (16 * i) (omega arith) ∙ number_before t1 (16 * i + 4) (next_of x) (16 * i) (omega arith)
+        ∙ number_put l (16 * i) (place_at x) (omega arith) b.address
 
-    put_next : number_at (put_place l i p n k) (16 * i + 4) ≡ n
+    put_next : number_at (put_place l i x) (16 * i + 4) ≡ next_of x
     unfolding put_place
     put_next =
-        number_before t2 (16 * i + 8) k (16 * i + 4) (omega arith) ∙ number_put t1 (16 * i + 4) n (simp length_put (omega arith)) bn
+        number_before t2 (16 * i + 8) (kind_of x) (16 * i + 4) (omega arith)
+        ∙ number_put t1 (16 * i + 4) (next_of x) (simp length_put (omega arith)) b.next
 
-    put_kind : number_at (put_place l i p n k) (16 * i + 8) ≡ k
+    put_kind : number_at (put_place l i x) (16 * i + 8) ≡ kind_of x
     unfolding put_place
-    put_kind = number_put t2 (16 * i + 8) k (simp length_put (omega arith)) bk
+    put_kind = number_put t2 (16 * i + 8) (kind_of x) (simp length_put (omega arith)) (omega (arith, kind_le x))
 
-    pub place_put : place_in (put_place l i p n k) i ≡ place_of p n k
+    pub place_put : place_in (put_place l i x) i ≡ x
     unfolding place_in
-    place_put = rw (put_address, put_next, put_kind)
+    place_put = rw (put_address, put_next, put_kind) (place_numbers x)
 
-    pub shows_put : Shows p n k → ShowsIn (put_place l i p n k) i
-    shows_put s = rw (put_address, put_next, put_kind) s
+    pub shows_put : ShowsIn (put_place l i x) i
+    shows_put = rw (put_address, put_next, put_kind) (shows_numbers x)
 
     -- a table with one place more
-    pub places_put : places_in (put_place l i p n k) (i + 1) ≡ places_in l i ++ (place_of p n k ∷ [])
+    pub places_put : places_in (put_place l i x) (i + 1) ≡ places_in l i ++ (x ∷ [])
     unfolding places_in up_to
     places_put =
-        let e : places_in (put_place l i p n k) i ≡ places_in l i = places_same (put_place l i p n k) l i place_below in
+        let e : places_in (put_place l i x) i ≡ places_in l i = places_same (put_place l i x) l i place_below in
         rw (add-one i, place_put, e)

@@ -1,16 +1,8 @@
 -- What the code answers of a word, as the definitions of model have it.
-use Rattle.std.specs.Prelude.{ℕ}
-use Rattle.std.proofs.Math.Option.{Option, none, some}
 use Rattle.words.specs.declared.Operand.TheVariants.{Constant}
 use Rattle.words.specs.declared.Flow.{Flow}
 use Rattle.words.specs.declared.Flow.TheVariants.{Faults, Continues, Traps, Calls, Branches, Jumps}
 use Rattle.model.specs.OldCore.{Transfer, illegal, straight, trap, call, bicc, jmpl}
-use Rattle.places.specs.declared.control.Fetched.{Fetched}
-use Rattle.places.specs.declared.control.Fetched.TheVariants.{Word, Outside}
-
-unfoldable pub word_of : Fetched → Option ℕ
-word_of (Word w) = some w
-word_of Outside = none
 
 -- a transfer with that flow: the rules of places and records do not look at a jmpl's operands, so any will do (`by_flow`)
 unfoldable pub transferred : Flow → Transfer

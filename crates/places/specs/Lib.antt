@@ -1,3 +1,4 @@
 pub mod Control
 pub mod Table
 pub mod Index
+pub mod Lent

@@ -1,10 +1,10 @@
 -- The place table's bytes as a list of places.
-use Rattle.std.specs.Prelude.{ℕ, suc, ◌+◌, ◌*◌, List, [], ◌∷◌, ◌≡◌, eqb}
+use Rattle.std.specs.Prelude.{ℕ, suc, ◌+◌, ◌*◌, ◌^◌, ◌<◌, List, [], ◌∷◌, ◌≡◌, eqb, ltb, length, Option, Some, None}
 use Rattle.numbers.specs.Choice.{pick}
 use Rattle.numbers.specs.Number.{number_at, put_number, up_to}
 use Rattle.model.specs.declared.Place.{Place}
 use Rattle.model.specs.declared.Place.TheVariants.{Pair, Held}
-use Rattle.model.specs.Places.{next_of, kind_of, same_place}
+use Rattle.model.specs.Places.{place_at, next_of, kind_of, same_place}
 
 -- the place with an address, a next and a kind: kind 2 is held
 unfoldable pub place_of : ℕ → ℕ → ℕ → Place
@@ -14,6 +14,11 @@ place_of p n kind = pick (eqb kind 2) (Held p) (Pair p n)
 pub record Shows (p n kind : ℕ) : Type 0 where
   pub its_next : next_of (place_of p n kind) ≡ n
   pub its_kind : kind_of (place_of p n kind) ≡ kind
+
+-- a place whose address and next are numbers of 32 bits, as each of the code's is
+pub record Narrow (x : Place) : Type 0 where
+  pub address : place_at x < 2 ^ 32
+  pub next : next_of x < 2 ^ 32
 
 -- of row i
 unfoldable pub place_in : List ℕ → ℕ → Place
@@ -33,10 +38,14 @@ unfoldable pub places_in : List ℕ → ℕ → List Place
 places_in bytes n = up_to (place_in bytes) n
 
 -- the table with row i a place
-unfoldable pub put_place : List ℕ → ℕ → ℕ → ℕ → ℕ → List ℕ
-put_place bytes i p n kind = put_number (put_number (put_number bytes (16 * i) p) (16 * i + 4) n) (16 * i + 8) kind
+unfoldable pub put_place : List ℕ → ℕ → Place → List ℕ
+put_place bytes i x = put_number (put_number (put_number bytes (16 * i) (place_at x)) (16 * i + 4) (next_of x)) (16 * i + 8) (kind_of x)
 
 -- the lowest number of a place in a list, and the list's length where it is not there
 unfoldable pub number_of : Place → List Place → ℕ
 number_of x [] = 0
 number_of x (y ∷ ys) = pick (same_place y x) 0 (suc (number_of x ys))
+
+-- the same, where it is there
+unfoldable pub found : Place → List Place → Option ℕ
+found x ps = pick (ltb (number_of x ps) (length ps)) (Some (number_of x ps)) None

@@ -1,54 +1,82 @@
 // The index of a place table: places with one hash form a chain, from the newest to the oldest.
-ghost use Rattle.std.specs.Prelude.{◌≡◌, ◌+◌, ◌<◌, get_or, set};
-ghost use Rattle.places.specs.Table.{place_of, places_in, number_of, Shows};
-ghost use Rattle.places.specs.Index.{hash_of, Tabled};
+ghost use Rattle.std.specs.Prelude.{◌≡◌, ◌+◌, ◌<◌, get_or, set, replicate};
+ghost use Rattle.places.specs.Index.{hash, link_of};
 
-use crate::table::is_place;
-use machine::SourcePc;
+use crate::table::{address_of, next_of};
+use model::Place;
 
-fn hash(p: SourcePc, n: SourcePc) -> usize
-    ensures { result ≡ hash_of p.0 n.0 }
-{
-    let h = (p.0 / 4 % 65536 + n.0 / 4 % 65536 * 37) % 8192;
-    h as usize
+// How many places there are, the newest of each hash, and the one before each with its hash.
+#[derive(Drop)]
+pub struct Index {
+    pub count: usize,
+    pub heads: [u16; 8192],
+    pub links: [u16; 8192],
 }
 
-// The number of a place among the first `count`, and `count` where it is none of them. No two are the same, so the first met is it.
-pub fn find(
-    places: &[u8],
-    heads: &[u16; 8192],
-    links: &[u16; 8192],
-    count: usize,
-    p: SourcePc,
-    n: SourcePc,
-    kind: u32,
-) -> usize
-    requires { Tabled places.now count heads.now links.now × Shows p.0 n.0 kind }
-    ensures { result ≡ number_of (place_of p.0 n.0 kind) (places_in places.now count) }
+#[inline(always)]
+#[tactic(auto, unfolding(crate::specs::Index::hash))]
+fn hash(x: Place) -> usize
+    ensures { result ≡ hash x }
 {
-    let mut j = heads[hash(p, n)] as usize;
-    while 0 < j {
-        let i = j - 1;
-        if is_place(places, i, p.0, n.0, kind) {
-            return i;
-        }
-        j = links[i] as usize;
+    ((address_of(x) / 4 % 65536 + next_of(x) / 4 % 65536 * 37) % 8192) as usize
+}
+
+// The place that stands in a chain. It is a number with 0 for none, since an `Option<u16>` takes twice the memory, of which a translation has
+// 34 KiB (include/pijorrel.h).
+#[inline(always)]
+#[tactic(auto, unfolding(crate::specs::Index::link_of))]
+fn linked(n: u16) -> Option<usize>
+    ensures { link_of result ≡ n }
+{
+    match n {
+        0 => None,
+        _ => Some(n as usize - 1),
     }
-    count
 }
 
-// Row `count` comes to the index.
-pub fn enter(
-    heads: &mut [u16; 8192],
-    links: &mut [u16; 8192],
-    count: usize,
-    p: SourcePc,
-    n: SourcePc,
-)
-    requires { count < 8192 }
-    ensures { (heads.new ≡ set heads.old (hash_of p.0 n.0) (count + 1)) × (links.new ≡ set links.old count (get_or heads.old (hash_of p.0 n.0) 0)) }
-{
-    let h = hash(p, n);
-    links[count] = heads[h];
-    heads[h] = (count + 1) as u16;
+impl Index {
+    // The index of no place.
+    #[inline(always)]
+    pub fn new() -> Index
+        ensures count { result.count ≡ 0 }
+        ensures heads { result.heads ≡ replicate 8192 0 }
+        ensures links { result.links ≡ replicate 8192 0 }
+    {
+        Index {
+            count: 0,
+            heads: [0; 8192],
+            links: [0; 8192],
+        }
+    }
+
+    // The newest place with the hash of a place.
+    #[inline(always)]
+    pub(crate) fn newest(&self, x: Place) -> Option<usize>
+        ensures { link_of result ≡ get_or self.now.heads (hash x) 0 }
+    {
+        linked(self.heads[hash(x)])
+    }
+
+    // The place before place i with its hash.
+    #[inline(always)]
+    pub(crate) fn older(&self, i: usize) -> Option<usize>
+        requires { i < 8192 }
+        ensures { link_of result ≡ get_or self.now.links i 0 }
+    {
+        linked(self.links[i])
+    }
+
+    // The place that comes next goes to the front of its chain.
+    #[inline(always)]
+    pub fn enter(&mut self, x: Place)
+        requires { self.old.count < 8192 }
+        ensures count { self.new.count ≡ self.old.count + 1 }
+        ensures heads { self.new.heads ≡ set self.old.heads (hash x) (self.old.count + 1) }
+        ensures links { self.new.links ≡ set self.old.links self.old.count (get_or self.old.heads (hash x) 0) }
+    {
+        let h = hash(x);
+        self.links[self.count] = self.heads[h];
+        self.count += 1;
+        self.heads[h] = self.count as u16;
+    }
 }

@@ -1,24 +1,49 @@
-// The place table: four numbers a row, big-endian, in bytes that the caller lends. A place goes as its address, next and kind, apart, since
-// an enum would go through memory. A row is plain numbers; an address that is read from it has its type.
+// The place table: four numbers a row, big-endian, in bytes that the caller lends, with its index.
+ghost use Rattle.places.specs.Index.{Ready};
 ghost use Rattle.std.specs.Prelude.{◌≡◌, ◌+◌, ◌*◌, ◌≤◌, length, eqb};
 ghost use Rattle.numbers.specs.Number.{number_at};
-ghost use Rattle.model.specs.declared.Place.TheVariants.{Pair};
-ghost use Rattle.model.specs.Places.{kind_of, same_place};
-ghost use Rattle.places.specs.Table.{place_of, place_in, put_place, Shows, ShowsIn};
+ghost use Rattle.places.specs.Table.{Narrow, ShowsIn, place_in, put_place};
+ghost use Rattle.model.specs.Places.{place_at, next_of, kind_of, same_place};
 
+use crate::index::Index;
 use machine::SourcePc;
+use model::Place;
 
-// The kind of a place with a known next.
-pub fn pair_kind(p: SourcePc, n: SourcePc) -> u32
-    ensures { result ≡ kind_of (Pair p.0 n.0) }
+// The numbers of a place, as they stand in a row: address, next and kind.
+#[inline(always)]
+#[tactic(auto, unfolding(model::specs::Places::place_at))]
+pub fn address_of(x: Place) -> u32
+    ensures { result ≡ place_at x }
 {
-    if n.0 == numbers::add(p.0, 4) {
-        return 0;
+    match x {
+        Place::Pair(p, _) | Place::Held(p) => p,
     }
-    1
+}
+
+#[inline(always)]
+pub(crate) fn next_of(x: Place) -> u32
+    ensures { result ≡ next_of x }
+{
+    match x {
+        Place::Pair(_, n) => n,
+        Place::Held(_) => 0,
+    }
+}
+
+#[inline(always)]
+#[tactic(auto, unfolding(model::specs::Places::kind_of))]
+pub fn kind_of(x: Place) -> u32
+    ensures { result ≡ kind_of x }
+{
+    match x {
+        Place::Pair(p, n) if n == numbers::add(p, 4) => 0,
+        Place::Pair(_, _) => 1,
+        Place::Held(_) => 2,
+    }
 }
 
 // The address of row i.
+#[inline(always)]
 pub fn address(places: &[u8], i: usize) -> SourcePc
     requires { 16 * i + 16 ≤ length places.now }
     ensures { result.0 ≡ number_at places.now (16 * i) }
@@ -26,6 +51,7 @@ pub fn address(places: &[u8], i: usize) -> SourcePc
     SourcePc(numbers::read_number(places, 16 * i))
 }
 
+#[inline(always)]
 pub fn next(places: &[u8], i: usize) -> SourcePc
     requires { 16 * i + 16 ≤ length places.now }
     ensures { result.0 ≡ number_at places.now (16 * i + 4) }
@@ -33,6 +59,7 @@ pub fn next(places: &[u8], i: usize) -> SourcePc
     SourcePc(numbers::read_number(places, 16 * i + 4))
 }
 
+#[inline(always)]
 pub fn is_held(places: &[u8], i: usize) -> bool
     requires { 16 * i + 16 ≤ length places.now }
     ensures { result ≡ eqb (number_at places.now (16 * i + 8)) 2 }
@@ -40,26 +67,112 @@ pub fn is_held(places: &[u8], i: usize) -> bool
     numbers::read_number(places, 16 * i + 8) == 2
 }
 
-// Makes row i a place. Its first record stays as it is.
-pub fn write_place(places: &mut [u8], i: usize, p: u32, n: u32, kind: u32)
-    requires { 16 * i + 16 ≤ length places.old }
-    ensures { places.new ≡ put_place places.old i p n kind }
+// Whether row i is a place: its numbers are compared, so that no row is made a place.
+#[inline(always)]
+#[tactic(auto, using(crate::proofs::Rows::other_address, crate::proofs::Rows::other_next, crate::proofs::Rows::by_kind))]
+pub fn is_place(places: &[u8], i: usize, x: Place) -> bool
+    requires { (16 * i + 16 ≤ length places.now) × ShowsIn places.now i }
+    ensures { result ≡ same_place (place_in places.now i) x }
 {
-    numbers::write_number(places, 16 * i, p);
-    numbers::write_number(places, 16 * i + 4, n);
-    numbers::write_number(places, 16 * i + 8, kind);
+    numbers::read_number(places, 16 * i) == address_of(x)
+        && numbers::read_number(places, 16 * i + 4) == next_of(x)
+        && numbers::read_number(places, 16 * i + 8) == kind_of(x)
 }
 
-// Whether row i is a place.
-pub fn is_place(places: &[u8], i: usize, p: u32, n: u32, kind: u32) -> bool
-    requires { (16 * i + 16 ≤ length places.now) × Shows p n kind × ShowsIn places.now i }
-    ensures { result ≡ same_place (place_in places.now i) (place_of p n kind) }
+// Makes row i a place. Its first record stays as it is.
+#[inline(always)]
+#[tactic(auto, unfolding(crate::specs::Table::put_place))]
+pub fn write_place(places: &mut [u8], i: usize, x: Place)
+    requires { 16 * i + 16 ≤ length places.old }
+    ensures put { places.new ≡ put_place places.old i x }
+    ensures narrow { Narrow x }
 {
-    if numbers::read_number(places, 16 * i) != p {
-        return false;
+    numbers::write_number(places, 16 * i, address_of(x));
+    numbers::write_number(places, 16 * i + 4, next_of(x));
+    numbers::write_number(places, 16 * i + 8, kind_of(x));
+}
+
+// A place table with room for so many places.
+#[derive(Drop)]
+pub struct Table<'a> {
+    pub places: &'a mut [u8],
+    pub index: &'a mut Index,
+    pub room: usize,
+    ghost ready: { Ready room places.now index.now.count index.now.heads index.now.links },
+}
+
+impl Table<'_> {
+    ghost use Rattle.std.specs.Prelude.{◌<◌, [], ◌∷◌, ◌++◌, false, eqb};
+    ghost use Rattle.numbers.specs.Number.{number_at};
+    ghost use Rattle.model.specs.Places.{same_place, member};
+    ghost use Rattle.places.specs.Table.{place_in, found};
+    ghost use Rattle.places.specs.Lent.{listed, Kept};
+
+    // How many places there are.
+    #[inline(always)]
+    pub fn len(&self) -> usize
+        ensures { result ≡ self.now.index.now.count }
+    {
+        self.index.count
     }
-    if numbers::read_number(places, 16 * i + 4) != n {
-        return false;
+
+    // The address of row i.
+    #[inline(always)]
+    pub fn address(&self, i: usize) -> SourcePc
+        requires { i < self.now.index.now.count }
+        ensures { result.0 ≡ number_at self.now.places.now (16 * i) }
+    {
+        address(self.places, i)
     }
-    numbers::read_number(places, 16 * i + 8) == kind
+
+    #[inline(always)]
+    pub fn next(&self, i: usize) -> SourcePc
+        requires { i < self.now.index.now.count }
+        ensures { result.0 ≡ number_at self.now.places.now (16 * i + 4) }
+    {
+        next(self.places, i)
+    }
+
+    #[inline(always)]
+    pub fn is_held(&self, i: usize) -> bool
+        requires { i < self.now.index.now.count }
+        ensures { result ≡ eqb (number_at self.now.places.now (16 * i + 8)) 2 }
+    {
+        is_held(self.places, i)
+    }
+
+    #[inline(always)]
+    pub fn first_record(&self, i: usize) -> u32
+        requires { i < self.now.index.now.count }
+        ensures { result ≡ number_at self.now.places.now (16 * i + 12) }
+    {
+        numbers::read_number(self.places, 16 * i + 12)
+    }
+
+    // The number of a place, if it is present. No two are the same, so the first met is it.
+    #[inline(always)]
+    pub fn find(&self, x: Place) -> Option<usize>
+        ensures { result ≡ found x (listed self.now) }
+    {
+        let mut next = self.index.newest(x);
+        while let Some(i) = next {
+            if is_place(self.places, i, x) {
+                return Some(i);
+            }
+            next = self.index.older(i);
+        }
+        None
+    }
+
+    // A place that is not present takes the next number.
+    #[inline(always)]
+    pub fn push(&mut self, x: Place)
+        requires { (self.old.index.now.count < self.old.room) × (member (listed self.old) x ≡ false) }
+        ensures places { listed self.new ≡ listed self.old ++ (x ∷ []) }
+        ensures kept { Kept self.old self.new }
+    {
+        let i = self.len();
+        write_place(self.places, i, x);
+        self.index.enter(x);
+    }
 }

@@ -44,9 +44,12 @@ module _ (image entries entry state area : List ℕ) (base db k count : ℕ) (th
 
 -- none is left
 pub follow_end : (image entries state area : List ℕ) (base db k count : ℕ) {t : Trailed} → k ≤ count → count ≤ k
-    → followed image base db entries (count - k) k state area ≡ t → trailed k state area ≡ t
+    → followed image base db entries (count - k) k state area ≡ t → trailed count state area ≡ t
 unfolding followed
-follow_end image entries state area base db k count h i e = let z : count - k ≡ 0 = omega arith in rw z at e
+follow_end image entries state area base db k count h i e =
+    let n : k ≡ count = omega arith in
+    let z : count - k ≡ 0 = omega arith in
+    rw (z, n) at e
 
 -- a trail that is the definition's, compared part by part, has the definition's verdict
 pub trail_found_lem : (next tag count : ℕ) (after : List ℕ) {t b : Trailed} {s : Bool} → t ≡ b → s ≡ same_bytes t.area after

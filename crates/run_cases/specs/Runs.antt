@@ -2,7 +2,6 @@
 use Rattle.std.specs.Prelude.{ℕ, ◌+◌, ◌%◌, Bool, ◌&&◌, List, eqb, replicate}
 use Rattle.machine.specs.Ends.{Ending, ending}
 use Rattle.model.specs.StateBytes.{old_size, new_size, After, old_runs, new_runs}
-use Rattle.run_cases.specs.declared.records.Parts.{Parts}
 use Rattle.case_files.specs.Files.{number_in, part_of, padded_to, copied, same_bytes, one_entry, Checked, checked, old_parts}
 
 -- whether a run ended in a known state, whose end stands at a position with the number beside it
@@ -22,6 +21,18 @@ old_found bytes at area =
     ran_found p.next (number_in bytes at) 0x4F4C4443 (part_of bytes p.known old_size) 144 (part_of bytes p.after p.size)
     (old_runs (part_of bytes p.image p.extent) (number_in bytes (at + 8)) (number_in bytes (at + 12)) (number_in bytes (at + 20) % 65536)
     (copied (replicate old_size 0) (part_of bytes (at + 24) old_size)) (copied area (part_of bytes p.before p.size)))
+
+-- where the parts of a case start, and how many bytes its place table (rows), its records (extent) and its data (size) have
+pub record Parts : Type 0 where
+  pub places : ℕ
+  pub rows : ℕ
+  pub records : ℕ
+  pub extent : ℕ
+  pub before : ℕ
+  pub size : ℕ
+  pub known : ℕ
+  pub after : ℕ
+  pub next : ℕ
 
 -- a case of the new core: eight numbers, a state, a place table, records, data, a state, data
 unfoldable pub new_parts : List ℕ → ℕ → Parts

@@ -1,83 +1,81 @@
 // A case of the new core: a state, a place table, records and data, and the state and the data after a run of a given count.
-ghost use Rattle.std.specs.Prelude.{◌≡◌, ◌+◌, ◌≤◌, length};
-ghost use Rattle.machine.specs.Ends.{ending};
-ghost use Rattle.case_files.specs.Files.{checked};
-ghost use Rattle.run_cases.specs.Runs.{ended_in, new_parts, new_found};
+ghost use Rattle.std.specs.Prelude.{◌≡◌, ◌+◌};
+ghost use Rattle.model.specs.StateBytes.{new_size};
+ghost use Rattle.case_files.specs.Files.{part_of, checked};
+ghost use Rattle.run_cases.specs.Runs.{new_parts, new_found};
 
-use case_files::{Found, copy, number, one, padded, part};
-use machine::Ended;
+use crate::ending::ended_in;
+use case_files::{Case, Found, copy, over_zeros, padded, part};
 use states::NEW_STATE;
 
 // What a case starts with.
 const TAG: u32 = 0x4E455743;
 
-// Whether a run ended in the known state.
-fn ended_in(known: &[u8], state: &[u8; NEW_STATE], r: Ended) -> bool
-    ensures { result ≡ ended_in known.now 140 (ending r.end r.number) state.now }
-{
-    check::same(state, known) & (r.end == number(known, 140)) & (r.number == number(known, 144))
-}
+// Where a state has its end.
+const END: usize = 140;
 
-// Where the parts of a case start, and how many bytes its place table (rows), its records (extent) and its data (size) have.
+// The parts of a case, each as much of it as the file has, and where the next case starts. Each kind of case has a struct, as its parts differ.
 #[derive(Clone, Copy)]
-struct Parts {
-    places: usize,
-    rows: usize,
-    records: usize,
-    extent: usize,
-    before: usize,
-    size: usize,
-    known: usize,
-    after: usize,
+struct Parts<'a> {
+    state: &'a [u8],
+    places: &'a [u8],
+    records: &'a [u8],
+    before: &'a [u8],
+    known: &'a [u8],
+    after: &'a [u8],
     next: usize,
 }
 
-// The parts of the case at a position: eight numbers, a state, a place table, records, data, a state, data.
-fn locate(bytes: &[u8], at: usize) -> Parts
-    requires { at ≤ length bytes.now + 4 }
-    ensures { result ≡ new_parts bytes.now at }
-{
-    let rows = number(bytes, at + 4);
-    let extent = number(bytes, at + 8);
-    let size = number(bytes, at + 24);
-    let places = at + 32 + NEW_STATE;
-    let records = places + padded(rows);
-    let before = records + padded(extent);
-    let known = before + padded(size);
-    let after = known + NEW_STATE;
-    Parts {
-        places,
-        rows: rows as usize,
-        records,
-        extent: extent as usize,
-        before,
-        size: size as usize,
-        known,
-        after,
-        next: after + padded(size),
+impl<'a> Parts<'a> {
+    // The parts of a case: eight numbers, a state, a place table, records, data, a state, data.
+    #[tactic(auto, unfolding(crate::specs::Runs::new_parts))]
+    fn of(case: &Case<'a>) -> Parts<'a>
+        ensures state { result.state.now ≡ part_of case.now.bytes.now (case.now.at + 32) new_size }
+        ensures places { let p = new_parts case.now.bytes.now case.now.at in result.places.now ≡ part_of case.now.bytes.now p.places p.rows }
+        ensures records { let p = new_parts case.now.bytes.now case.now.at in result.records.now ≡ part_of case.now.bytes.now p.records p.extent }
+        ensures before { let p = new_parts case.now.bytes.now case.now.at in result.before.now ≡ part_of case.now.bytes.now p.before p.size }
+        ensures known { let p = new_parts case.now.bytes.now case.now.at in result.known.now ≡ part_of case.now.bytes.now p.known new_size }
+        ensures after { let p = new_parts case.now.bytes.now case.now.at in result.after.now ≡ part_of case.now.bytes.now p.after p.size }
+        ensures next { result.next ≡ (new_parts case.now.bytes.now case.now.at).next }
+    {
+        let bytes = case.bytes;
+        let rows = case.number(1);
+        let extent = case.number(2);
+        let size = case.number(6);
+        let places = case.at + 32 + NEW_STATE;
+        let records = places + padded(rows);
+        let before = records + padded(extent);
+        let known = before + padded(size);
+        let after = known + NEW_STATE;
+        Parts {
+            state: part(bytes, case.at + 32, NEW_STATE),
+            places: part(bytes, places, rows as usize),
+            records: part(bytes, records, extent as usize),
+            before: part(bytes, before, size as usize),
+            known: part(bytes, known, NEW_STATE),
+            after: part(bytes, after, size as usize),
+            next: after + padded(size),
+        }
     }
 }
 
-// Runs the case that starts at a position, in a data area of its size. It has one entry.
-pub fn check(bytes: &[u8], at: usize, area: &mut [u8]) -> Found
-    requires { at ≤ length bytes.now + 4 }
-    ensures { checked result area.new ≡ new_found bytes.now at area.old }
+// Runs a case, in a data area of its size. It has one entry.
+pub fn check(case: &Case, area: &mut [u8]) -> Found
+    ensures { checked result area.new ≡ new_found case.now.bytes.now case.now.at area.old }
 {
-    let base = number(bytes, at + 12);
-    let length = number(bytes, at + 16);
-    let db = number(bytes, at + 20);
-    let count = (number(bytes, at + 28) % 65536) as u16;
-    let p = locate(bytes, at);
-    let mut state = [0u8; NEW_STATE];
-    copy(&mut state, part(bytes, at + 32, NEW_STATE));
-    copy(area, part(bytes, p.before, p.size));
-    let places = part(bytes, p.places, p.rows);
-    let records = part(bytes, p.records, p.extent);
+    let p = Parts::of(case);
+    let mut state: [u8; NEW_STATE] = over_zeros(p.state);
+    copy(area, p.before);
     let r = pijorrel_new::pijorrel_new_run(
-        records, places, base, length, db, &mut state, area, count,
+        p.records,
+        p.places,
+        case.number(3),
+        case.number(4),
+        case.number(5),
+        &mut state,
+        area,
+        (case.number(7) % 65536) as u16,
     );
-    let agrees = (number(bytes, at) == TAG)
-        & ended_in(part(bytes, p.known, NEW_STATE), &state, r)
-        & check::same(area, part(bytes, p.after, p.size));
-    one(p.next, agrees)
+    let agrees = (case.tag() == TAG) & ended_in(p.known, END, &state, r) & (*area == *p.after);
+    Found::one(p.next, agrees)
 }

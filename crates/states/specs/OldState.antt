@@ -1,9 +1,9 @@
 -- The old core's state as a value of the code, over a lent area.
-use Rattle.std.specs.Prelude.{ℕ, List, replicate}
-use Rattle.machine.specs.declared.End.TheVariants.{Going}
+use Rattle.std.specs.Prelude.{ℕ, List, replicate, None}
 use Rattle.machine.specs.Ends.{State, left}
 use Rattle.machine.specs.Registers.{file_size}
 use Rattle.states.specs.declared.OldControl.{OldControl}
+use Rattle.states.specs.declared.Standing.{Standing}
 use Rattle.states.specs.declared.OldCore.{OldCore}
 use Rattle.model.specs.OldCore.{Old, old}
 use Rattle.model.specs.StateBytes.{is_set}
@@ -14,13 +14,10 @@ unfoldable pub start_values : OldCore
 start_values =
     record {
       registers = replicate file_size 0;
-      control =
+      standing =
           record {
-            flags = record { nzvc = 0 };
-            pc = record { 0 = 0 };
-            npc = record { 0 = 0 };
-            annul = 0;
-            end = Going;
+            control = record { flags = record { nzvc = 0 }; pc = record { 0 = 0 }; npc = record { 0 = 0 }; annul = 0 };
+            end = None;
           };
     }
 
@@ -28,5 +25,6 @@ start_values =
 abbrev pub old_of : List ℕ → OldControl → List ℕ → Old
 old_of rs c a = old (record { registers = rs; flags = c.flags.nzvc; area = a }) c.pc.0 c.npc.0 (is_set c.annul)
 
-abbrev pub old_state : List ℕ → OldControl → List ℕ → State Old
-old_state rs c a = left (old_of rs c a) c.end
+-- the same with how the run stands
+abbrev pub old_state : List ℕ → Standing OldControl → List ℕ → State Old
+old_state rs s a = left (old_of rs s.control a) s.end

@@ -1,6 +1,4 @@
 -- Laws of what is handed back: refusals, acceptance, and the buffers after they are cleared.
-use denote.Enum.Declared.{tag_of}
-use types.Run.{OneOf, miss}
 use Rattle.numbers.proofs.Areas.{bytes_of_numbers}
 use Rattle.numbers.specs.Number.{up_to, numbers_of, bytes_of, zero_from}
 use Rattle.model.specs.declared.Place.{Place}
@@ -14,34 +12,21 @@ use lib.Seq.{length-take-le}
 use lib.ListN.{length, get_or, take, replicate}
 use native.Mathlib.Nat.{sub-zero}
 use native.Mathlib.Omega.{arith}
-use mathlib.Core.List.{List, [], ◌∷◌}
+use mathlib.Core.List.{List}
 use mathlib.Core.Path.{◌≡◌, refl, sym, ap, ◌∙◌}
 use Prim.Native.Nat.{ℕ, ◌*◌, ◌/◌, ◌≤◌, ◌<◌}
-use Rattle.model.specs.Translation.{Handed, filled, refusal, acceptance, from_walk, translation}
+use Rattle.model.specs.Translation.{Answer, accepted, Handed, filled, refusal, acceptance, from_walk, translation}
 use Rattle.model.proofs.Accepted.{took}
 use Rattle.model.specs.Walk.{table}
 use Rattle.model.specs.Records.{in_full, rows_of, records_of, records_from, records_numbers, first}
-use Rattle.model.specs.declared.Answer.{Answer}
-use Rattle.model.specs.declared.Answer.TheVariants.{Accepted, ImageLength, Base, Entry, Forbidden, NoRoom, RecordsShort}
-use Rattle.model.specs.contracts.Answer.{the_type as answer}
-use Rattle.walks.specs.declared.worklist.Found.{Found}
-use Rattle.walks.specs.declared.worklist.Found.TheVariants as Found·
-use Rattle.walks.specs.Walk.{seen}
+use Rattle.std.specs.Prelude.{Ok, Err}
+use Rattle.model.specs.declared.Refusal.{Refusal}
+use Rattle.model.specs.declared.Refusal.TheVariants.{RecordsShort}
+use Rattle.model.specs.declared.Refusal.TheVariants as Refusal·
+use Rattle.walks.specs.declared.worklist.Refused.{Refused}
+use Rattle.walks.specs.declared.worklist.Refused.TheVariants.{Forbidden, NoRoom}
+use Rattle.walks.specs.Walk.{seen, refusal_of}
 use Rattle.translator.specs.Handing.{places_counted, records_counted, handed, cleared}
-
--- a refusal counts nothing; the numbers are those of the variants, in the order of the enum
-abbrev refusals : List ℕ
-refusals = 1 ∷ 2 ∷ 3 ∷ 4 ∷ 5 ∷ 6 ∷ []
-
-pub counts_nothing : (a : Answer) → OneOf refusals (tag_of answer a) → (places_counted a ≡ 0) × (records_counted a ≡ 0)
-unfolding places_counted records_counted
-counts_nothing (Accepted n m) k = absurd (miss refusals 0 tt k)
-counts_nothing (ImageLength n) k = (refl, refl)
-counts_nothing (Base a) k = (refl, refl)
-counts_nothing (Entry n) k = (refl, refl)
-counts_nothing (Forbidden a) k = (refl, refl)
-counts_nothing (NoRoom a) k = (refl, refl)
-counts_nothing (RecordsShort n) k = (refl, refl)
 
 nothing_filled : (l : List ℕ) (n size : ℕ) → n ≡ 0 → filled (numbers_of l n) size ≡ replicate size 0
 unfolding filled numbers_of up_to bytes_of
@@ -50,21 +35,20 @@ nothing_filled l n size e = rw (e, sub-zero size)
 -- what is answered, with the buffers t and s
 module _ (pl rl : ℕ) (t s : List ℕ) (lt : length t ≡ pl) (ls : length s ≡ rl) where
   -- a refusal counts nothing
-  pub refused_as : (a : Answer) → places_counted a ≡ 0 → records_counted a ≡ 0 → cleared a t s ≡ refusal pl rl a
-  unfolding refusal
-  refused_as a p q =
-      rw (nothing_filled t (4 * places_counted a) (length t) (omega arith), nothing_filled s (3 * records_counted a) (length s) (omega arith), lt, ls)
+  pub refused_as : (e : Refusal) → cleared (Err e) t s ≡ refusal pl rl e
+  unfolding refusal places_counted records_counted
+  refused_as e = rw (nothing_filled t 0 (length t) refl, nothing_filled s 0 (length s) refl, lt, ls)
 
   module _ (image : List ℕ) (base : ℕ) (ps : List Place) (count r : ℕ) (d : Laid (in_full image base) ps count t r) where
     all_of : (f : Place → ℕ) → length (records_from (in_full image base) f ps) ≡ r
     all_of f = records_length (in_full image base) f ps ∙ sym d.all
 
-    pub finish_short : rl / 12 < r → cleared (RecordsShort r) t s ≡ from_walk image base pl rl (table ps)
+    pub finish_short : rl / 12 < r → cleared (Err (RecordsShort r)) t s ≡ from_walk image base pl rl (table ps)
     unfolding from_walk records_of places_counted records_counted
-    finish_short h = rw (all_of (first (in_full image base) ps), lt-leb r (rl / 12) h) (refused_as (RecordsShort r) refl refl)
+    finish_short h = rw (all_of (first (in_full image base) ps), lt-leb r (rl / 12) h) (refused_as (RecordsShort r))
 
     pub finish_whole : r ≤ rl / 12 → numbers_of s (3 * r) ≡ records_numbers (records_from (in_full image base) (first_in t count r) (places_in t count))
-        → cleared (Accepted count r) t s ≡ from_walk image base pl rl (table ps)
+        → cleared (accepted count r) t s ≡ from_walk image base pl rl (table ps)
     unfolding from_walk records_of rows_of acceptance places_counted records_counted
     finish_whole h e =
         let n : length ps ≡ count = ap length (sym d.kept) ∙ length_places t count in
@@ -72,32 +56,19 @@ module _ (pl rl : ℕ) (t s : List ℕ) (lt : length t ≡ pl) (ls : length s �
         rw d.kept (records_same (in_full image base) ps (first_laid (in_full image base) ps count t r d)) in
         rw (all_of (first (in_full image base) ps), le-leb r (rl / 12) h, n, d.numbers, e, f, lt, ls)
 
-  -- the end of the walk, by what was found
-  module _ (image : List ℕ) (base : ℕ) {w : Found} where
-    pub ends_forbidden : {a : ℕ} → w ≡ Found·.Forbidden a → (u : List ℕ) → cleared (Forbidden a) t s ≡ from_walk image base pl rl (seen w u)
-    unfolding from_walk seen places_counted records_counted
-    ends_forbidden {a} e u = rw e (refused_as (Forbidden a) refl refl)
-
-    pub ends_full : {a : ℕ} → w ≡ Found·.NoRoom a → (u : List ℕ) → cleared (NoRoom a) t s ≡ from_walk image base pl rl (seen w u)
-    unfolding from_walk seen places_counted records_counted
-    ends_full {a} e u = rw e (refused_as (NoRoom a) refl refl)
-
-pub ends_places : (image : List ℕ) (base rl : ℕ) (u : List ℕ) {pl ql : ℕ} {w : Found} {n : ℕ} → ql ≡ pl → w ≡ Found·.Places n
-    → from_walk image base ql rl (table (places_in u n)) ≡ from_walk image base pl rl (seen w u)
-unfolding seen
-ends_places image base rl u l e = rw (e, l)
+  -- a walk that was refused
+  pub ends_refused : (image : List ℕ) (base : ℕ) (e : Refused) (ps : List Place)
+      → cleared (Err (refusal_of e)) t s ≡ from_walk image base pl rl (seen (Err e) ps)
+  unfolding from_walk seen refusal_of
+  ends_refused image base (Forbidden a) ps = refused_as (Refusal·.Forbidden a)
+  ends_refused image base (NoRoom a) ps = refused_as (Refusal·.NoRoom a)
 
 -- what an answer counts lies in the buffers
 module _ (image : List ℕ) (base : ℕ) (entries : List ℕ) (pl rl : ℕ) where
   answer_fits : (a : Answer) → a ≡ (translation image base entries pl rl).answer → (16 * places_counted a ≤ pl) × (12 * records_counted a ≤ rl)
   unfolding places_counted records_counted
-  answer_fits (Accepted n m) e = let t = took image base entries pl rl n m (sym e) in (t.place_room_lem, t.record_room)
-  answer_fits (ImageLength n) e = (omega arith, omega arith)
-  answer_fits (Base a) e = (omega arith, omega arith)
-  answer_fits (Entry k) e = (omega arith, omega arith)
-  answer_fits (Forbidden a) e = (omega arith, omega arith)
-  answer_fits (NoRoom a) e = (omega arith, omega arith)
-  answer_fits (RecordsShort n) e = (omega arith, omega arith)
+  answer_fits (Ok c) e = let t = took image base entries pl rl c.places c.records (sym e) in (t.place_room_lem, t.record_room)
+  answer_fits (Err r) e = (omega arith, omega arith)
 
   pub counted_fits : {a : Answer} {t s : List ℕ} → handed a t s ≡ translation image base entries pl rl
       → (16 * places_counted a ≤ pl) × (12 * records_counted a ≤ rl)

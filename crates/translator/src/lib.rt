@@ -1,146 +1,118 @@
 // The translator: from an image and its entries, the place table and the records, or a refusal.
 #![tactic(auto)]
 
-ghost use Rattle.std.specs.Prelude.{◌≡◌, ◌*◌, ◌≤◌, length};
-ghost use Rattle.numbers.specs.Number.{numbers_of};
-ghost use Rattle.model.specs.Translation.{bad_length, bad_count, bad_entry, first_bad, place_room, from_walk, translation};
-ghost use Rattle.model.specs.Walk.{table};
-ghost use Rattle.places.specs.Table.{places_in};
-ghost use Rattle.places.specs.Index.{Tabled};
-ghost use Rattle.translator.specs.Handing.{places_counted, records_counted, handed, cleared};
+ghost use Rattle.std.specs.Prelude.{◌≡◌, length};
+ghost use Rattle.model.specs.Records.{numbers_in};
+ghost use Rattle.model.specs.Translation.{bad_length, bad_count, bad_entry, place_room, from_walk, translation};
+ghost use Rattle.model.specs.Walk as walk;
+ghost use Rattle.places.specs.Lent.{listed, Kept};
+ghost use Rattle.translator.specs.Handing.{image_checked, entries_checked, handed, cleared};
 
-use model::Answer;
+use model::{Answer, Counts, Image, Refusal};
+use places::index::Index;
+use places::table::Table;
 use walks::walk::find_places;
-use walks::worklist::Found;
 
 // Refusal 1.
+#[tactic(auto, unfolding(model::specs::Translation::bad_length))]
 fn bad_length(n: usize) -> bool
     ensures { result ≡ bad_length n }
 {
-    if n == 0 {
-        return true;
-    }
-    if 16384 < n {
-        return true;
-    }
-    n % 4 != 0
+    n == 0 || 16384 < n || n % 4 != 0
 }
 
 // Refusal 3 for the count.
+#[tactic(auto, unfolding(model::specs::Translation::bad_count))]
 fn bad_count(k: usize) -> bool
     ensures { result ≡ bad_count k }
 {
-    if k == 0 {
-        return true;
-    }
-    64 < k
+    k == 0 || 64 < k
 }
 
+#[tactic(auto, unfolding(model::specs::Translation::bad_entry, model::specs::OldCore::in_image))]
 fn bad_entry(base: u32, size: usize, e: u32) -> bool
     ensures { result ≡ bad_entry base size e }
 {
-    if e % 4 != 0 {
-        return true;
-    }
     let at = numbers::subtract(e, base) as usize;
-    size < at + 4
+    e % 4 != 0 || size < at + 4
 }
 
-// The position of the first bad entry of k, counted from 1; 0 if none is bad.
-fn bad_position(entries: &[u8], k: usize, base: u32, size: usize) -> u32
-    requires { (4 * k ≤ length entries.now) × (k ≤ 64) }
-    ensures { result ≡ first_bad base size 0 (numbers_of entries.now k) }
+// Refusals 1 and 2.
+#[inline(always)]
+#[tactic(auto, unfolding(crate::specs::Handing::image_checked))]
+fn check_image(image: Image<'_>) -> Result<(), Refusal>
+    ensures { result ≡ image_checked (length image.entry.bytes.now) image.entry.base }
 {
-    let mut j: usize = 0;
-    while j < k {
-        if bad_entry(base, size, numbers::read_number(entries, 4 * j)) {
-            return (j + 1) as u32;
-        }
-        j += 1;
+    let size = image.bytes.len();
+    if bad_length(size) {
+        return Err(Refusal::ImageLength(size as u64));
     }
-    0
+    if image.base % 4 != 0 {
+        return Err(Refusal::Base(image.base));
+    }
+    Ok(())
+}
+
+// Refusal 3: of a count, or of the first bad entry, by its position.
+#[inline(always)]
+fn check_entries(image: Image<'_>, entries: &[u8]) -> Result<(), Refusal>
+    ensures { result ≡ entries_checked (length image.entry.bytes.now) image.entry.base (numbers_in entries.now) }
+{
+    let count = entries.len() / 4;
+    if bad_count(count) {
+        return Err(Refusal::Entry(0));
+    }
+    for j in 0..count {
+        let e = numbers::read_number(entries, 4 * j);
+        if bad_entry(image.base, image.bytes.len(), e) {
+            return Err(Refusal::Entry((j + 1) as u32));
+        }
+    }
+    Ok(())
 }
 
 // How many places a table of so many bytes has room for.
+#[tactic(auto, unfolding(model::specs::Translation::place_room))]
 fn place_room(bytes: usize) -> usize
     ensures { result ≡ place_room bytes }
 {
-    if bytes / 16 < 8192 {
-        return bytes / 16;
-    }
-    8192
+    (bytes / 16).min(8192)
 }
 
 // First records and records of the places that were found; refusal 6 where the buffer is short.
-fn finish(
-    image: &[u8],
-    base: u32,
-    places: &mut [u8],
-    heads: &[u16; 8192],
-    links: &[u16; 8192],
-    count: usize,
-    records: &mut [u8],
-) -> Answer
-    requires { Tabled places.old count heads.now links.now }
-    ensures { cleared result places.new records.new ≡ from_walk image.now base (length places.old) (length records.old) (table (places_in places.old count)) }
+#[inline(always)]
+fn finish(image: Image<'_>, table: &mut Table<'_>, records: &mut [u8]) -> Answer
+    ensures handed { cleared result table.new.places.now records.new ≡ from_walk image.entry.bytes.now image.entry.base (length table.old.places.now) (length records.old) (walk.table (listed table.old)) }
+    ensures kept { Kept table.old table.new }
 {
-    let total = groups::layout::lay_out(image, base, places, count);
+    let count = table.len();
+    let total = groups::layout::lay_out(image, table.places, count);
     if records.len() / 12 < total {
-        return Answer::RecordsShort(total as u32);
+        return Err(Refusal::RecordsShort(total as u32));
     }
-    groups::records::put_groups(image, base, places, heads, links, count, total, records);
-    Answer::Accepted(count as u32, total as u32)
+    groups::records::put_groups(image, table, total, records);
+    Ok(Counts {
+        places: count as u32,
+        records: total as u32,
+    })
 }
 
 // The translation before its buffers are cleared: nothing is said of the bytes past what it counts.
-fn attempt(image: &[u8], base: u32, entries: &[u8], places: &mut [u8], records: &mut [u8]) -> Answer
-    ensures { cleared result places.new records.new ≡ translation image.now base entries.now (length places.old) (length records.old) }
+#[inline(always)]
+fn attempt(image: Image<'_>, entries: &[u8], places: &mut [u8], records: &mut [u8]) -> Answer
+    ensures { cleared result places.new records.new ≡ translation image.entry.bytes.now image.entry.base entries.now (length places.old) (length records.old) }
 {
-    let size = image.len();
-    if bad_length(size) {
-        return Answer::ImageLength(size as u64);
-    }
-    if base % 4 != 0 {
-        return Answer::Base(base);
-    }
-    let k = entries.len() / 4;
-    if bad_count(k) {
-        return Answer::Entry(0);
-    }
-    let bad = bad_position(entries, k, base, size);
-    if bad != 0 {
-        return Answer::Entry(bad);
-    }
-    let mut heads = [0u16; 8192];
-    let mut links = [0u16; 8192];
+    check_image(image)?;
+    check_entries(image, entries)?;
     let room = place_room(places.len());
-    let w = find_places(
-        image, base, entries, k, places, &mut heads, &mut links, room,
-    );
-    match w {
-        Found::Places(n) => finish(image, base, places, &heads, &links, n, records),
-        Found::Forbidden(a) => Answer::Forbidden(a),
-        Found::NoRoom(a) => Answer::NoRoom(a),
-    }
-}
-
-// The places that an answer counts: a refusal counts none.
-fn places_counted(a: Answer) -> usize
-    ensures { result ≡ places_counted a }
-{
-    match a {
-        Answer::Accepted(n, m) => n as usize,
-        _ => 0,
-    }
-}
-
-fn records_counted(a: Answer) -> usize
-    ensures { result ≡ records_counted a }
-{
-    match a {
-        Answer::Accepted(n, m) => m as usize,
-        _ => 0,
-    }
+    let mut index = Index::new();
+    let mut table = Table {
+        places,
+        index: &mut index,
+        room,
+    };
+    find_places(image, entries, &mut table)?;
+    finish(image, &mut table, records)
 }
 
 // The translation: the answer, and both buffers filled with 0 past what it counts.
@@ -153,8 +125,10 @@ pub fn translate(
 ) -> Answer
     ensures { handed result places.new records.new ≡ translation image.now base entries.now (length places.old) (length records.old) }
 {
-    let a = attempt(image, base, entries, places, records);
-    numbers::clear_from(places, 16 * places_counted(a));
-    numbers::clear_from(records, 12 * records_counted(a));
-    a
+    let image = Image { bytes: image, base };
+    let answer = attempt(image, entries, places, records);
+    let counted = answer.unwrap_or(Counts::NONE);
+    numbers::clear_from(places, 16 * counted.places as usize);
+    numbers::clear_from(records, 12 * counted.records as usize);
+    answer
 }

@@ -1,145 +1,70 @@
 // The walk: places are handled in number order, and each adds those of its followers that are not yet present.
-ghost use Rattle.std.specs.Prelude.{◌≡◌, ◌+◌, ◌*◌, ◌≤◌, ◌<◌, suc, [], length};
-ghost use Rattle.numbers.specs.Choice.{pick};
-ghost use Rattle.numbers.specs.Number.{numbers_of};
-ghost use Rattle.model.specs.Places.{may_be_held, plains};
+ghost use Rattle.std.specs.Prelude.{◌≡◌, ◌<◌, suc, []};
+ghost use Rattle.model.specs.Places.{plains};
+ghost use Rattle.model.specs.Records.{numbers_in};
 ghost use Rattle.model.specs.Walk.{grow, walk, places_of};
-ghost use Rattle.walks.specs.declared.worklist.Found.TheVariants.{Places, Forbidden};
-ghost use Rattle.places.specs.Control.{transferred};
-ghost use Rattle.places.specs.Table.{place_in, places_in};
-ghost use Rattle.places.specs.Index.{Ready};
-ghost use Rattle.walks.specs.Walk.{Known};
-ghost use Rattle.walks.specs.Walk.{handled};
+ghost use Rattle.places.specs.Table.{place_in};
+ghost use Rattle.places.specs.Lent.{listed};
+ghost use Rattle.walks.specs.Walk.{handled, Known, Grown};
 
-use crate::worklist::{Found, add_names, add_plain};
+use crate::worklist::{Refused, add_names, add_plain};
 use machine::SourcePc;
-use places::control::{Fetched, fetch, may_be_held};
-use places::table::{address, is_held, next};
-use words::Flow;
+use model::Image;
+use places::control::may_be_held;
+use places::table::Table;
 
-// Handles a held place: it has no followers, but its word is tested.
-fn handle_held(count: usize, f: Flow, p: SourcePc) -> Found
-    ensures { result ≡ pick (may_be_held (transferred f)) (Places count) (Forbidden p.0) }
+// Handles place i: a held place's word is tested, and it has no followers; another's are added in order.
+#[inline(always)]
+fn handle(image: Image<'_>, table: &mut Table<'_>, i: usize) -> Result<(), Refused>
+    requires { i < table.old.index.now.count }
+    ensures { Known (handled image.entry.bytes.now image.entry.base table.old.room (listed table.old) (place_in table.old.places.now i)) table.old result table.new }
 {
-    if may_be_held(f) {
-        return Found::Places(count);
+    let p = table.address(i);
+    let Some(word) = image.word(p) else {
+        return Ok(());
+    };
+    let flow = flows::read_flow(word);
+    if !table.is_held(i) {
+        return add_names(image, table, flow, p, table.next(i));
     }
-    Found::Forbidden(p.0)
-}
-
-// Handles place `at`: a held place's word is tested, another's followers are added in order.
-fn handle(
-    image: &[u8],
-    base: u32,
-    places: &mut [u8],
-    heads: &mut [u16; 8192],
-    links: &mut [u16; 8192],
-    count: usize,
-    room: usize,
-    at: usize,
-) -> Found
-    requires { (at < count) × Ready room places.old count heads.old links.old }
-    ensures { Known room (handled image.now base room (places_in places.old count) (place_in places.old at)) result places.new heads.new links.new }
-{
-    let p = address(places, at);
-    let f = fetch(image, base, p);
-    match f {
-        Fetched::Word(word) => {
-            let flow = flows::read_flow(word);
-            if is_held(places, at) {
-                return handle_held(count, flow, p);
-            }
-            let n = next(places, at);
-            add_names(image, base, places, heads, links, count, room, flow, p, n)
-        }
-        Fetched::Outside => Found::Places(count),
+    if may_be_held(flow) {
+        Ok(())
+    } else {
+        Err(Refused::Forbidden(p.0))
     }
 }
 
 // Handles the places in number order, until none is left.
-fn walk(
-    image: &[u8],
-    base: u32,
-    places: &mut [u8],
-    heads: &mut [u16; 8192],
-    links: &mut [u16; 8192],
-    count: usize,
-    room: usize,
-) -> Found
-    requires { Ready room places.old count heads.old links.old }
-    ensures { Known room (walk image.now base (suc room) room 0 (places_in places.old count)) result places.new heads.new links.new }
+#[inline(always)]
+fn walk(image: Image<'_>, table: &mut Table<'_>) -> Result<(), Refused>
+    ensures { Known (walk image.entry.bytes.now image.entry.base (suc table.old.room) table.old.room 0 (listed table.old)) table.old result table.new }
 {
-    let mut n = count;
-    let mut i: usize = 0;
-    while i < n {
-        let w = handle(image, base, places, heads, links, n, room, i);
-        match w {
-            Found::Places(m) => {
-                n = m;
-            }
-            Found::Forbidden(a) => {
-                return Found::Forbidden(a);
-            }
-            Found::NoRoom(a) => {
-                return Found::NoRoom(a);
-            }
-        }
+    let mut i = 0;
+    // Not over a range, since the places become more on the way.
+    while i < table.len() {
+        handle(image, table, i)?;
         i += 1;
     }
-    Found::Places(n)
+    Ok(())
 }
 
-// The first k entries become plain places.
-fn start(
-    entries: &[u8],
-    k: usize,
-    places: &mut [u8],
-    heads: &mut [u16; 8192],
-    links: &mut [u16; 8192],
-    room: usize,
-) -> Found
-    requires { (4 * k ≤ length entries.now) × Ready room places.old 0 heads.old links.old }
-    ensures { Known room (grow room [] (plains (numbers_of entries.now k))) result places.new heads.new links.new }
+// The entries become plain places.
+#[inline(always)]
+fn start(entries: &[u8], table: &mut Table<'_>) -> Result<(), Refused>
+    ensures { Grown table.old (plains (numbers_in entries.now)) result table.new }
 {
-    let mut n: usize = 0;
-    let mut j: usize = 0;
-    while j < k {
-        let e = numbers::read_number(entries, 4 * j);
-        let w = add_plain(places, heads, links, n, room, SourcePc(e));
-        match w {
-            Found::Places(m) => {
-                n = m;
-            }
-            Found::Forbidden(a) => {
-                return Found::Forbidden(a);
-            }
-            Found::NoRoom(a) => {
-                return Found::NoRoom(a);
-            }
-        }
-        j += 1;
+    for j in 0..entries.len() / 4 {
+        add_plain(table, SourcePc(numbers::read_number(entries, 4 * j)))?;
     }
-    Found::Places(n)
+    Ok(())
 }
 
-// Finds the places of a program from its entries. The index has to come empty, and goes with the table.
-pub fn find_places(
-    image: &[u8],
-    base: u32,
-    entries: &[u8],
-    k: usize,
-    places: &mut [u8],
-    heads: &mut [u16; 8192],
-    links: &mut [u16; 8192],
-    room: usize,
-) -> Found
-    requires { (4 * k ≤ length entries.now) × Ready room places.old 0 heads.old links.old }
-    ensures { Known room (places_of image.now base room (numbers_of entries.now k)) result places.new heads.new links.new }
+// Finds the places of a program from its entries.
+#[inline(always)]
+pub fn find_places(image: Image<'_>, entries: &[u8], table: &mut Table<'_>) -> Result<(), Refused>
+    requires { table.old.index.now.count ≡ 0 }
+    ensures { Known (places_of image.entry.bytes.now image.entry.base table.old.room (numbers_in entries.now)) table.old result table.new }
 {
-    let w = start(entries, k, places, heads, links, room);
-    match w {
-        Found::Places(n) => walk(image, base, places, heads, links, n, room),
-        Found::Forbidden(a) => Found::Forbidden(a),
-        Found::NoRoom(a) => Found::NoRoom(a),
-    }
+    start(entries, table)?;
+    walk(image, table)
 }

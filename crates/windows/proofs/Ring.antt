@@ -7,8 +7,11 @@ use mathlib.Core.Bool.{Bool, true, false}
 use mathlib.Core.List.{List, [], ◌∷◌}
 use mathlib.Core.Logic.{◌⊎◌, inl, inr}
 use lib.Dec.{eqb, ltb}
-use lib.ListN.{length, get_or, set, length-set}
-use lib.Seq.{get_or-set_same, get_or-set_other, set_comm, ext_get_or}
+use lib.ListN.{length, get_or, set, replicate, length-set}
+use borrow.Rule.Slice.PartMut.{mid_of, mid_len, put_mid}
+use Rattle.std.proofs.lemmas.Slice.{put_mid-paste}
+use Rattle.std.proofs.lemmas.List.{get_or-replicate}
+use lib.Seq.{paste, paste-zero, paste-suc, get_or-set_same, get_or-set_other, set_comm, ext_get_or}
 use borrow.Author.Tests.{eqb-true, eqb-false, ltb-true, ltb-false, le-ltb}
 use Rattle.numbers.specs.Number.{Below}
 use Rattle.numbers.proofs.Bounds.{below_get, below_set}
@@ -111,6 +114,19 @@ unfolding put_each
 each_same at at' v v' zero rs f g = refl
 each_same at at' v v' (suc k) rs f g =
     rw (f k (omega arith), g k (omega arith), each_same at at' v v' k rs (λ j h. f j (omega arith)) (λ j h. g j (omega arith)))
+
+-- numbers one behind the other are a list that is pasted
+pub each_pasted : (at n : ℕ) (rs xs : List ℕ) → at + n ≤ length rs → n ≤ length xs → paste rs at xs n ≡ put_each (λ k. at + k) (λ k. get_or xs k 0) n rs
+unfolding put_each
+each_pasted at zero rs xs h l = sym (paste-zero rs at xs)
+each_pasted at (suc k) rs xs h l = rw (← each_pasted at k rs xs (omega arith) (omega arith)) (sym (paste-suc rs at xs k 0 (omega arith) (omega arith)))
+
+pub eight_cleared : (at : ℕ) (rs xs : List ℕ) → at + 8 ≤ length rs → xs ≡ replicate (length (mid_of at (at + 8 - at) rs)) 0
+    → put_mid at (at + 8 - at) rs xs ≡ put_each (λ k. at + k) (λ k. 0) 8 rs
+eight_cleared at rs xs h e =
+    let p : at + 8 - at ≡ 8 = omega arith in
+    put_mid-paste _ _ _ _ (replicate 8 0) 8 (rw (mid_len at (at + 8) rs h, p) at e) (sym p) refl ∙ each_pasted at 8 rs (replicate 8 0) h (omega arith)
+    ∙ each_same (λ k. at + k) (λ k. at + k) (λ k. get_or (replicate 8 0) k 0) (λ k. 0) 8 rs (λ k i. refl) (λ k i. get_or-replicate 8 k 0 0 i)
 
 -- twenty-four are three times eight
 in_eights : (at v : ℕ → ℕ) (rs : List ℕ)

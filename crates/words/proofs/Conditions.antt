@@ -7,6 +7,7 @@ use mathlib.Core.List.{List, [], ◌∷◌}
 use lib.Dec.{T, eqb}
 use native.Mathlib.Omega.{arith}
 use lib.ListN.{get_or}
+use Rattle.std.specs.Int.{from_bool}
 use Rattle.words.specs.Conditions.{rows, bit_at, holds_of, bit_of, nzvc_of, Formula, never, formulas}
 
 -- one test over both tables
@@ -117,3 +118,9 @@ pub bit_lt : (b : Bool) → bit_of b < 2
 unfolding bit_of
 bit_lt true = omega arith
 bit_lt false = omega arith
+
+-- a flag as the library makes a number of it
+pub one_bit : (b : Bool) (n : ℕ) → n ≡ from_bool b → bit_of b ≡ n
+unfolding bit_of
+one_bit true n e = sym e
+one_bit false n e = sym e

@@ -8,11 +8,12 @@ use native.Mathlib.Omega.{arith}
 use lib.Dec.{ltb, leb}
 use lib.Pow.{pow_pos, pow-add, shr-shr}
 use borrow.Author.Tests.{lt-ltb, le-ltb, le-leb, ltb-true, ltb-false, leb-true}
+use Rattle.std.proofs.Common.{Ok, Err}
 use Rattle.numbers.specs.Choice.{pick}
 use Rattle.numbers.specs.Number.{plus, signed}
-use Rattle.words.specs.declared.Written.TheVariants.{Fit, Unfit}
 use Rattle.words.specs.Reader.{bits}
-use Rattle.words.specs.Writer.{Field, plain, with_sign, joined}
+use Rattle.words.specs.declared.Unfit.{Unfit}
+use Rattle.words.specs.Writer.{Field, refusal, plain, with_sign, joined}
 
 abbrev pub total : List Field → ℕ
 total [] = 0
@@ -61,21 +62,22 @@ push a k n v p q l =
       below = mul-add-mod_self_right a (2 ^ n) v ∙ mod-eq_of_lt q;
     }
 
-refused : (n : ℕ) (fs : List Field) → joined (Unfit n) fs ≡ Unfit n
-refused n [] = refl
-refused n (f ∷ fs) = refused n fs
+-- a refusal goes through
+pub refused : (e : Unfit) (fs : List Field) → joined (Err e) fs ≡ Err e
+refused e [] = refl
+refused e (f ∷ fs) = refused e fs
 
 -- the word that fields join to holds them, above them what they were put behind
-pub joined_holds : (fs : List Field) (a k w : ℕ) → Sounds fs → a < 2 ^ k → k + total fs ≤ 32 → joined (Fit a) fs ≡ Fit w
+pub joined_holds : (fs : List Field) (a k w : ℕ) → Sounds fs → a < 2 ^ k → k + total fs ≤ 32 → joined (Ok a) fs ≡ Ok w
     → (w / 2 ^ total fs ≡ a) × Holds w fs
 unfolding bits
 joined_holds [] a k w s p l e = let h : a ≡ w = cc in (div-one w ∙ sym h, tt)
 joined_holds (f ∷ fs) a k w s p l e = go f.fits refl e (λ b j q r d. joined_holds fs b j w s.1 q r d)
   where
-    go : (t : Bool) → f.fits ≡ t → joined (pick t (Fit (plus (a * 2 ^ f.width) f.value)) (Unfit f.width)) fs ≡ Fit w
-        → ((b j : ℕ) → b < 2 ^ j → j + total fs ≤ 32 → joined (Fit b) fs ≡ Fit w → (w / 2 ^ total fs ≡ b) × Holds w fs)
+    go : (t : Bool) → f.fits ≡ t → joined (pick t (Ok (plus (a * 2 ^ f.width) f.value)) (refusal f.width)) fs ≡ Ok w
+        → ((b j : ℕ) → b < 2 ^ j → j + total fs ≤ 32 → joined (Ok b) fs ≡ Ok w → (w / 2 ^ total fs ≡ b) × Holds w fs)
         → (w / 2 ^ (f.width + total fs) ≡ a) × (Has w (total fs) f × Holds w fs)
-    go false t e rest = let z : Unfit f.width ≡ Fit w = sym (refused f.width fs) ∙ e in absurd (let o : ◌≡◌ {A = ℕ} 0 1 = cc in omega arith)
+    go false t e rest = let z : refusal f.width ≡ Ok w = sym (refused _ fs) ∙ e in absurd (let o : ◌≡◌ {A = ℕ} 0 1 = cc in omega arith)
     go true t e rest =
         let n : ℕ = f.width in
         let v : ℕ = f.value in
@@ -94,8 +96,8 @@ back w p n h =
     let d : w / 2 ^ p < 2 ^ 32 = let l = div-le_self w (2 ^ p) in omega arith in
     rw (c, ← shr-shr w p n, div-add-mod' (w / 2 ^ p) (2 ^ n)) (mod-eq_of_lt d)
 
-pub joined_back : (fs : List Field) (w : ℕ) → w < 2 ^ 32 → Holds w fs → joined (Fit (w / 2 ^ total fs)) fs ≡ Fit w
-joined_back [] w h s = ap Fit (div-one w)
+pub joined_back : (fs : List Field) (w : ℕ) → w < 2 ^ 32 → Holds w fs → joined (Ok (w / 2 ^ total fs)) fs ≡ Ok w
+joined_back [] w h s = ap Ok (div-one w)
 joined_back (f ∷ fs) w h s =
     rw (s.0.fitting, ← s.0.here, back w (total fs) f.width h) (joined_back fs w h s.1)
 

@@ -1,29 +1,28 @@
 -- Laws of the reader: a field cut by a mask, and the row of a table that a field chooses.
-use Prim.Native.Nat.{ℕ, ◌+◌, ◌-◌, ◌%◌, ◌^◌, ◌<◌, ◌≤◌}
+use Prim.Native.Nat.{ℕ, ◌-◌, ◌*◌, ◌/◌, ◌%◌, ◌^◌, ◌<◌}
 use mathlib.Core.Path.{◌≡◌, sym, ap, ◌∙◌}
-use native.Mathlib.Nat.{div-one}
 use native.Mathlib.Omega.{arith}
-use lib.Bits.{bit_and, and_mask, mask_lt}
-use Rattle.numbers.specs.Number.{minus, signed}
-use Rattle.numbers.proofs.Number.{extend_by_sum}
+use Rattle.std.proofs.Common.{Bool, true, false}
+use Rattle.std.specs.Bool.{MatchBool}
+use Rattle.numbers.specs.Choice.{pick}
+use Rattle.std.proofs.lemmas.Nat.{one_shl}
+use lib.Bits.{bit_and, and_mask}
 use Rattle.numbers.specs.Choice.{find}
 use Rattle.numbers.proofs.Choice.{Misses, find_behind, find_none}
 use Rattle.words.specs.declared.Operand.{Operand}
+use Rattle.words.specs.declared.Instruction.{Instruction}
 use Rattle.words.specs.declared.Instruction.TheVariants.{Illegal}
 use Rattle.words.specs.Reader.{bits, rows0, format0_of, Format2, none2, arithmetic_rows, other_rows, format2_of, Format3, rows3, none3, format3_of, by_format, strictly, instruction_of}
 
--- the low bits of a word
-pub low_bits : (word width : ℕ) → bit_and word (2 ^ width - 1) ≡ bits word 0 width
+-- the mask of a field, as it is shifted
+pub masked : (word low width : ℕ) → width < 32 → bit_and (word / 2 ^ low) (1 * 2 ^ width % 2 ^ 32 - 1) ≡ bits word low width
 unfolding bits
-low_bits word width = rw div-one (and_mask word width)
+masked word low width h = rw (one_shl width 32 h) (and_mask (word / 2 ^ low) width)
 
--- a field in the low bits, its sign extended by a sum and a difference; h is the weight of the sign bit
-pub extended : (h width word v : ℕ) → v ≡ bits word 0 width → h + h ≡ 2 ^ width → 2 ^ (width - 1) ≡ h → h + h ≤ 2 ^ 32
-    → minus ((v + h) % (h + h)) h ≡ signed width (bits word 0 width)
-unfolding signed
-extended h width word v q e f l =
-    let b : v < h + h = rw (e, q, ← low_bits word width) (mask_lt word width) in
-    rw (f, ← e, ← q) (extend_by_sum h v b l)
+-- an instruction that is made of a word unless a bit beside a register is set
+pub made : (t : Bool) (r i : Instruction) (Q : Type 0) → MatchBool t (r ≡ Illegal) Q → (Q → r ≡ i) → r ≡ pick t Illegal i
+made true r i Q m f = m
+made false r i Q m f = f m
 
 -- a field that is in no row chooses an illegal word
 pub no_row_other : (op3 cond rd rs1 : ℕ) (x : Operand) → Misses (Unit {0}) other_rows op3 → Illegal ≡ find other_rows none2 op3 cond rd rs1 x

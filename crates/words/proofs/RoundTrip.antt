@@ -8,6 +8,7 @@ use native.Mathlib.Omega.{arith}
 use lib.Dec.{eqb}
 use lib.Pow.{pow_pos, mod-pow-add}
 use borrow.Author.Tests.{lt-ltb, ltb-true, eqb-true, eqb-false}
+use Rattle.std.proofs.Common.{Ok}
 use Rattle.numbers.specs.Choice.{pick}
 use Rattle.numbers.specs.Number.{signed}
 use Rattle.numbers.proofs.Choice.{found_all}
@@ -26,7 +27,6 @@ use Rattle.words.specs.declared.Width.{Width}
 use Rattle.words.specs.declared.Width.TheVariants.{Byte, Half, Word}
 use Rattle.words.specs.declared.Instruction.{Instruction}
 use Rattle.words.specs.declared.Instruction.TheVariants.{Illegal, Call, Sethi, Bicc, Arithmetic, Jmpl, Ticc, Load, Store, Shift, Rdy, Wry, Window}
-use Rattle.words.specs.declared.Written.TheVariants.{Fit}
 use Rattle.words.specs.Reader.{bits, bit_set, operand_of, sources, rows0, format0_of, Format2, rows2, none2, format2_of, Format3, rows3, none3, format3_of, by_format, set_from, register_strays, rdy_strays, wry_strays, unused_set, strictly, instruction_of}
 use Rattle.words.specs.Writer.{Field, plain, with_sign, joined, operand, constant13, constant7, constant5, arithmetic_op3, shift_op3, window_op3, load_op3, store_op3, long_word, shift_word, rdy_word, wry_word, trap_word, sethi_word, branch_word, call_word, written_of}
 use Rattle.words.specs.RoundTrip.{ReadsBack, WritesAgain}
@@ -146,7 +146,7 @@ record Read (w op rd op3 rs1 : ℕ) (fs : List Field) : Type 0 where
   pub rest : Holds w fs
 
 front_read : (op rd op3 rs1 w : ℕ) (c : ℕ → List Field) → Room c → (x : Operand) → op < 4
-    → joined (Fit op) (plain 5 rd ∷ plain 6 op3 ∷ plain 5 rs1 ∷ operand c x) ≡ Fit w → Read w op rd op3 rs1 (operand c x)
+    → joined (Ok op) (plain 5 rd ∷ plain 6 op3 ∷ plain 5 rs1 ∷ operand c x) ≡ Ok w → Read w op rd op3 rs1 (operand c x)
 front_read op rd op3 rs1 w c r x h e =
     let t : total (operand c x) ≡ 14 = fourteen c r x in
     let p = joined_holds (plain 5 rd ∷ plain 6 op3 ∷ plain 5 rs1 ∷ operand c x) op 2 w
@@ -222,28 +222,28 @@ unfolding window_op3 format2_of
 window_row Save cond rd rs1 x = refl
 window_row Restore cond rd rs1 x = refl
 
-arithmetic_back : (o : Operation) (cc : Bool) (rd rs1 : ℕ) (x : Operand) (w : ℕ) → long_word 2 rd (arithmetic_op3 o cc) rs1 x ≡ Fit w → instruction_of w ≡ Arithmetic o cc rd rs1 x
+arithmetic_back : (o : Operation) (cc : Bool) (rd rs1 : ℕ) (x : Operand) (w : ℕ) → long_word 2 rd (arithmetic_op3 o cc) rs1 x ≡ Ok w → instruction_of w ≡ Arithmetic o cc rd rs1 x
 unfolding long_word unused_set
 arithmetic_back o cc rd rs1 x w e =
     let l = front_read 2 rd (arithmetic_op3 o cc) rs1 w constant13 room_13 x (omega arith) e in
     let p = operand_13 w x l.rest in
     read_2 w rd _ rs1 x _ _ l p.0 (λ cond. arithmetic_row o cc cond rd rs1 x) p.1
 
-window_back : (o : WindowOperation) (rd rs1 : ℕ) (x : Operand) (w : ℕ) → long_word 2 rd (window_op3 o) rs1 x ≡ Fit w → instruction_of w ≡ Window o rd rs1 x
+window_back : (o : WindowOperation) (rd rs1 : ℕ) (x : Operand) (w : ℕ) → long_word 2 rd (window_op3 o) rs1 x ≡ Ok w → instruction_of w ≡ Window o rd rs1 x
 unfolding long_word unused_set
 window_back o rd rs1 x w e =
     let l = front_read 2 rd (window_op3 o) rs1 w constant13 room_13 x (omega arith) e in
     let p = operand_13 w x l.rest in
     read_2 w rd _ rs1 x _ _ l p.0 (λ cond. window_row o cond rd rs1 x) p.1
 
-jmpl_back : (rd rs1 : ℕ) (x : Operand) (w : ℕ) → long_word 2 rd 56 rs1 x ≡ Fit w → instruction_of w ≡ Jmpl rd rs1 x
+jmpl_back : (rd rs1 : ℕ) (x : Operand) (w : ℕ) → long_word 2 rd 56 rs1 x ≡ Ok w → instruction_of w ≡ Jmpl rd rs1 x
 unfolding long_word unused_set format2_of
 jmpl_back rd rs1 x w e =
     let l = front_read 2 rd 56 rs1 w constant13 room_13 x (omega arith) e in
     let p = operand_13 w x l.rest in
     read_2 w rd 56 rs1 x _ (Jmpl rd rs1 x) l p.0 (λ cond. refl) p.1
 
-wry_back : (rs1 : ℕ) (x : Operand) (w : ℕ) → wry_word rs1 x ≡ Fit w → instruction_of w ≡ Wry (sources rs1 x)
+wry_back : (rs1 : ℕ) (x : Operand) (w : ℕ) → wry_word rs1 x ≡ Ok w → instruction_of w ≡ Wry (sources rs1 x)
 unfolding wry_word long_word unused_set wry_strays format2_of
 wry_back rs1 x w e =
     let l = front_read 2 0 48 rs1 w constant13 room_13 x (omega arith) e in
@@ -255,7 +255,7 @@ low_fourteen : (w : ℕ) → bits w 13 1 ≡ 0 → bits w 0 13 ≡ 0 → bits w 
 unfolding bits
 low_fourteen w a b = let m = mod-pow-add (w / 1) 1 13 in omega (arith, m)
 
-rdy_back : (rd w : ℕ) → rdy_word rd ≡ Fit w → instruction_of w ≡ Rdy rd
+rdy_back : (rd w : ℕ) → rdy_word rd ≡ Ok w → instruction_of w ≡ Rdy rd
 unfolding rdy_word long_word unused_set rdy_strays format2_of
 rdy_back rd w e =
     let l = front_read 2 rd 40 0 w constant13 room_13 (Register 0) (omega arith) e in
@@ -263,28 +263,28 @@ rdy_back rd w e =
     read_2 w rd 40 0 (Register 0) _ (Rdy rd) l (register_read w 0 s).0 (λ cond. refl)
     (rw (l.rs1_is, low_fourteen w s.0.here (low_five w 0 s.1.0.here s.1.1.0.here)))
 
-load_back : (o : LoadOperation) (rd rs1 : ℕ) (x : Operand) (w : ℕ) → long_word 3 rd (load_op3 o) rs1 x ≡ Fit w → instruction_of w ≡ Load o rd rs1 x
+load_back : (o : LoadOperation) (rd rs1 : ℕ) (x : Operand) (w : ℕ) → long_word 3 rd (load_op3 o) rs1 x ≡ Ok w → instruction_of w ≡ Load o rd rs1 x
 unfolding long_word unused_set
 load_back o rd rs1 x w e =
     let l = front_read 3 rd (load_op3 o) rs1 w constant13 room_13 x (omega arith) e in
     let p = operand_13 w x l.rest in
     read_3 w rd _ rs1 x _ _ l p.0 (load_row o rd rs1 x) p.1
 
-store_back : (m : Width) (rd rs1 : ℕ) (x : Operand) (w : ℕ) → long_word 3 rd (store_op3 m) rs1 x ≡ Fit w → instruction_of w ≡ Store m rd rs1 x
+store_back : (m : Width) (rd rs1 : ℕ) (x : Operand) (w : ℕ) → long_word 3 rd (store_op3 m) rs1 x ≡ Ok w → instruction_of w ≡ Store m rd rs1 x
 unfolding long_word unused_set
 store_back m rd rs1 x w e =
     let l = front_read 3 rd (store_op3 m) rs1 w constant13 room_13 x (omega arith) e in
     let p = operand_13 w x l.rest in
     read_3 w rd _ rs1 x _ _ l p.0 (store_row m rd rs1 x) p.1
 
-shift_back : (o : ShiftOperation) (rd rs1 : ℕ) (x : Operand) (w : ℕ) → shift_word rd (shift_op3 o) rs1 x ≡ Fit w → instruction_of w ≡ Shift o rd rs1 x
+shift_back : (o : ShiftOperation) (rd rs1 : ℕ) (x : Operand) (w : ℕ) → shift_word rd (shift_op3 o) rs1 x ≡ Ok w → instruction_of w ≡ Shift o rd rs1 x
 unfolding shift_word unused_set
 shift_back o rd rs1 x w e =
     let l = front_read 2 rd (shift_op3 o) rs1 w constant5 room_5 x (omega arith) e in
     let p = operand_5 w x l.rest in
     read_2 w rd _ rs1 x _ _ l p.0 (λ cond. shift_row o cond rd rs1 x) p.1
 
-trap_back : (cond rs1 : ℕ) (x : Operand) (w : ℕ) → trap_word cond rs1 x ≡ Fit w → instruction_of w ≡ Ticc cond rs1 x
+trap_back : (cond rs1 : ℕ) (x : Operand) (w : ℕ) → trap_word cond rs1 x ≡ Ok w → instruction_of w ≡ Ticc cond rs1 x
 unfolding trap_word instruction_of by_format format2_of strictly unused_set
 trap_back cond rs1 x w e =
     let t : total (operand constant7 x) ≡ 14 = fourteen constant7 room_7 x in
@@ -297,7 +297,7 @@ trap_back cond rs1 x w e =
     let d : bits w 14 5 ≡ rs1 = rw t at p.1.1.1.1.0.here in
     rw (top w 2 (rw t at p.0) (omega arith), c, b, d, q.0, q.1, bit_not w 29 a, q.2)
 
-sethi_back : (rd imm w : ℕ) → sethi_word rd imm ≡ Fit w → instruction_of w ≡ Sethi rd imm
+sethi_back : (rd imm w : ℕ) → sethi_word rd imm ≡ Ok w → instruction_of w ≡ Sethi rd imm
 unfolding sethi_word instruction_of by_format format0_of strictly unused_set
 sethi_back rd imm w e =
     let fs : List Field = plain 5 rd ∷ plain 3 4 ∷ plain 22 imm ∷ [] in
@@ -309,7 +309,7 @@ unfolding bit_of
 bit_back w n true e = bit_is w n e
 bit_back w n false e = bit_not w n e
 
-branch_back : (cond : ℕ) (annul : Bool) (disp w : ℕ) → branch_word cond annul disp ≡ Fit w → instruction_of w ≡ Bicc cond annul disp
+branch_back : (cond : ℕ) (annul : Bool) (disp w : ℕ) → branch_word cond annul disp ≡ Ok w → instruction_of w ≡ Bicc cond annul disp
 unfolding branch_word instruction_of by_format format0_of strictly unused_set
 branch_back cond annul disp w e =
     let fs : List Field = plain 1 (bit_of annul) ∷ plain 4 cond ∷ plain 3 2 ∷ with_sign 22 disp ∷ [] in
@@ -318,7 +318,7 @@ branch_back cond annul disp w e =
     let b : signed 22 (bits w 0 22) ≡ disp = rw s.here (fits_read 22 2097152 1023 refl refl refl (omega arith) disp s.fitting) in
     rw (top w 0 p.0 (omega arith), p.1.1.1.0.here, p.1.1.0.here, bit_back w 29 annul p.1.0.here, b)
 
-call_back : (disp w : ℕ) → call_word disp ≡ Fit w → instruction_of w ≡ Call disp
+call_back : (disp w : ℕ) → call_word disp ≡ Ok w → instruction_of w ≡ Call disp
 unfolding call_word instruction_of by_format strictly unused_set
 call_back disp w e =
     let fs : List Field = with_sign 30 disp ∷ [] in
@@ -426,18 +426,18 @@ top_is w op h e = omega arith
 
 module _ (w : ℕ) (h : w < 2 ^ 32) where
   -- fields behind the two bits of the format
-  again : (fs : List Field) (op : ℕ) → total fs ≡ 30 → bits w 30 2 ≡ op → Holds w fs → joined (Fit op) fs ≡ Fit w
+  again : (fs : List Field) (op : ℕ) → total fs ≡ 30 → bits w 30 2 ≡ op → Holds w fs → joined (Ok op) fs ≡ Ok w
   again fs op t e s = rw (t, top_is w op h e) at (joined_back fs w h s)
 
   front_again : (op op3 : ℕ) (c : ℕ → List Field) → Room c → bits w 30 2 ≡ op → bits w 19 6 ≡ op3 → Holds w (operand c (operand_of w))
-      → joined (Fit op) (plain 5 (bits w 25 5) ∷ plain 6 op3 ∷ plain 5 (bits w 14 5) ∷ operand c (operand_of w)) ≡ Fit w
+      → joined (Ok op) (plain 5 (bits w 25 5) ∷ plain 6 op3 ∷ plain 5 (bits w 14 5) ∷ operand c (operand_of w)) ≡ Ok w
   front_again op op3 c r e f s =
       let t : total (operand c (operand_of w)) ≡ 14 = fourteen c r (operand_of w) in
       again (plain 5 (bits w 25 5) ∷ plain 6 op3 ∷ plain 5 (bits w 14 5) ∷ operand c (operand_of w)) op (rw t) e
       (rw t (cut_has w 25 5), (rw t (known_has w 19 6 op3 f), (rw t (cut_has w 14 5), s)))
 
   trap_again : bits w 30 2 ≡ 2 → bits w 19 6 ≡ 58 → unused_set (Ticc (bits w 25 4) (bits w 14 5) (operand_of w)) w ≡ false
-      → trap_word (bits w 25 4) (bits w 14 5) (operand_of w) ≡ Fit w
+      → trap_word (bits w 25 4) (bits w 14 5) (operand_of w) ≡ Ok w
   unfolding trap_word unused_set set_from bit_of
   trap_again e f u =
       let p = or_clear (register_strays w) (bit_set w 29 || set_from 7 w) u in
@@ -448,7 +448,7 @@ module _ (w : ℕ) (h : w < 2 ^ 32) where
 
   -- each format: a row, with no unused bit set, is written as the word it was read from
   abbrev Again : Instruction → Type 0
-  Again i = unused_set i w ≡ false → (i ≡ Illegal → ⊥) → written_of i ≡ Fit w
+  Again i = unused_set i w ≡ false → (i ≡ Illegal → ⊥) → written_of i ≡ Ok w
 
   again_0 : bits w 30 2 ≡ 0 → Again (format0_of w)
   unfolding format0_of written_of sethi_word branch_word
@@ -465,7 +465,7 @@ module _ (w : ℕ) (h : w < 2 ^ 32) where
           again (plain 5 (bits w 25 5) ∷ plain 3 4 ∷ plain 22 (bits w 0 22) ∷ []) 0 refl e
           (cut_has w 25 5, (known_has w 22 3 4 f, (cut_has w 0 22, tt)))
 
-  again_1 : bits w 30 2 ≡ 1 → written_of (Call (signed 30 (bits w 0 30))) ≡ Fit w
+  again_1 : bits w 30 2 ≡ 1 → written_of (Call (signed 30 (bits w 0 30))) ≡ Ok w
   unfolding written_of call_word
   again_1 e = again (with_sign 30 (signed 30 (bits w 0 30)) ∷ []) 1 refl e (sign_30 w, tt)
 
@@ -476,22 +476,22 @@ module _ (w : ℕ) (h : w < 2 ^ 32) where
       (long 0, (long 1, (long 2, (long 3, (long 4, (long 5, (long 6, (long 7, (long 8, (long 10, (long 11, (long 12, (long 16, (long 17, (long 18, (long 19, (long 20, (long 21, (long 22, (long 23, (long 24, (long 26, (long 27, (long 28, (shift 37, (shift 38, (shift 39, (rdy, (wry, (long 56, (λ f u n. trap_again e f u, (long 60, (long 61, tt)))))))))))))))))))))))))))))))))
       (λ f u n. absurd (n refl)) refl
     where
-      long : {B : Type 0} (key : ℕ) → bits w 19 6 ≡ key → register_strays w ≡ false → B → long_word 2 (bits w 25 5) key (bits w 14 5) (operand_of w) ≡ Fit w
+      long : {B : Type 0} (key : ℕ) → bits w 19 6 ≡ key → register_strays w ≡ false → B → long_word 2 (bits w 25 5) key (bits w 14 5) (operand_of w) ≡ Ok w
       long key f u n = front_again 2 key constant13 room_13 e f (again_13 w u)
 
-      rdy : {B : Type 0} → bits w 19 6 ≡ 40 → rdy_strays w ≡ false → B → long_word 2 (bits w 25 5) 40 0 (Register 0) ≡ Fit w
+      rdy : {B : Type 0} → bits w 19 6 ≡ 40 → rdy_strays w ≡ false → B → long_word 2 (bits w 25 5) 40 0 (Register 0) ≡ Ok w
       rdy f u n =
           let p = or_clear (not (eqb (bits w 14 5) 0)) (not (eqb (bits w 0 14) 0)) u in
           let z = low_clear w (all_clear w 0 14 p.1) in
           again (plain 5 (bits w 25 5) ∷ plain 6 40 ∷ plain 5 0 ∷ plain 1 0 ∷ plain 8 0 ∷ plain 5 0 ∷ []) 2 refl e
           (cut_has w 25 5, (known_has w 19 6 40 f, (known_has w 14 5 0 (all_clear w 14 5 p.0), (known_has w 13 1 0 z.0, (known_has w 5 8 0 z.1, (known_has w 0 5 0 z.2, tt))))))
 
-      wry : {B : Type 0} → bits w 19 6 ≡ 48 → register_strays w || wry_strays w ≡ false → B → long_word 2 0 48 (bits w 14 5) (operand_of w) ≡ Fit w
+      wry : {B : Type 0} → bits w 19 6 ≡ 48 → register_strays w || wry_strays w ≡ false → B → long_word 2 0 48 (bits w 14 5) (operand_of w) ≡ Ok w
       wry f u n =
           let p = or_clear (register_strays w) (not (eqb (bits w 25 5) 0)) u in
           rw (all_clear w 25 5 p.1) at (front_again 2 48 constant13 room_13 e f (again_13 w p.0))
 
-      shift : {B : Type 0} (key : ℕ) → bits w 19 6 ≡ key → set_from 5 w ≡ false → B → shift_word (bits w 25 5) key (bits w 14 5) (operand_of w) ≡ Fit w
+      shift : {B : Type 0} (key : ℕ) → bits w 19 6 ≡ key → set_from 5 w ≡ false → B → shift_word (bits w 25 5) key (bits w 14 5) (operand_of w) ≡ Ok w
       shift key f u n = front_again 2 key constant5 room_5 e f (again_5 w (all_clear w 5 8 u))
 
   again_3 : bits w 30 2 ≡ 3 → Again (format3_of (bits w 19 6) (bits w 25 5) (bits w 14 5) (operand_of w))
@@ -500,16 +500,16 @@ module _ (w : ℕ) (h : w < 2 ^ 32) where
       found_all (λ (key : ℕ) (f : Format3). bits w 19 6 ≡ key → Again (f (bits w 25 5) (bits w 14 5) (operand_of w))) rows3 none3 (bits w 19 6)
       (long 0, (long 1, (long 2, (long 4, (long 5, (long 6, (long 9, (long 10, tt)))))))) (λ f u n. absurd (n refl)) refl
     where
-      long : {B : Type 0} (key : ℕ) → bits w 19 6 ≡ key → register_strays w ≡ false → B → long_word 3 (bits w 25 5) key (bits w 14 5) (operand_of w) ≡ Fit w
+      long : {B : Type 0} (key : ℕ) → bits w 19 6 ≡ key → register_strays w ≡ false → B → long_word 3 (bits w 25 5) key (bits w 14 5) (operand_of w) ≡ Ok w
       long key f u n = front_again 3 key constant13 room_13 e f (again_13 w u)
 
 -- what is read strictly and is not illegal was read with no unused bit set
-was_strict : (w : ℕ) (i : Instruction) → (strictly w i ≡ Illegal → ⊥) → (unused_set i w ≡ false → (i ≡ Illegal → ⊥) → written_of i ≡ Fit w)
-    → written_of (strictly w i) ≡ Fit w
+was_strict : (w : ℕ) (i : Instruction) → (strictly w i ≡ Illegal → ⊥) → (unused_set i w ≡ false → (i ≡ Illegal → ⊥) → written_of i ≡ Ok w)
+    → written_of (strictly w i) ≡ Ok w
 unfolding strictly
 was_strict w i n f = go (unused_set i w) refl n
   where
-    go : (t : Bool) → unused_set i w ≡ t → (pick t Illegal i ≡ Illegal → ⊥) → written_of (pick t Illegal i) ≡ Fit w
+    go : (t : Bool) → unused_set i w ≡ t → (pick t Illegal i ≡ Illegal → ⊥) → written_of (pick t Illegal i) ≡ Ok w
     go true e n = absurd (n refl)
     go false e n = f e n
 
@@ -517,7 +517,7 @@ pub writes_again : WritesAgain
 unfolding instruction_of by_format
 writes_again w h n = was_strict w _ n (go (bits w 30 2) refl)
   where
-    go : (k : ℕ) → bits w 30 2 ≡ k → unused_set (by_format k w) w ≡ false → (by_format k w ≡ Illegal → ⊥) → written_of (by_format k w) ≡ Fit w
+    go : (k : ℕ) → bits w 30 2 ≡ k → unused_set (by_format k w) w ≡ false → (by_format k w ≡ Illegal → ⊥) → written_of (by_format k w) ≡ Ok w
     go zero e = again_0 w h e
     go (suc zero) e = λ u n. again_1 w h e
     go (suc (suc zero)) e = again_2 w h e

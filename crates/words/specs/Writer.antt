@@ -1,5 +1,5 @@
 -- 02, N2: "A writer for the words that the reader knows. .. Each instruction has one word, with unused bits 0."
-use Rattle.std.specs.Prelude.{ℕ, ◌-◌, ◌*◌, ◌%◌, ◌^◌, Bool, ◌&&◌, ◌||◌, List, [], ◌∷◌, leb, ltb}
+use Rattle.std.specs.Prelude.{ℕ, ◌-◌, ◌*◌, ◌%◌, ◌^◌, Bool, ◌&&◌, ◌||◌, List, [], ◌∷◌, Result, Ok, Err, leb, ltb}
 use Rattle.numbers.specs.Choice.{pick}
 use Rattle.numbers.specs.Number.{plus}
 use Rattle.words.specs.Conditions.{bit_of}
@@ -17,8 +17,14 @@ use Rattle.words.specs.declared.Width.{Width}
 use Rattle.words.specs.declared.Width.TheVariants.{Byte, Half, Word}
 use Rattle.words.specs.declared.Instruction.{Instruction}
 use Rattle.words.specs.declared.Instruction.TheVariants.{Illegal, Call, Sethi, Bicc, Arithmetic, Jmpl, Ticc, Load, Store, Shift, Rdy, Wry, Window}
-use Rattle.words.specs.declared.Written.{Written}
-use Rattle.words.specs.declared.Written.TheVariants.{Fit, Unfit}
+use Rattle.words.specs.declared.Unfit.{Unfit}
+
+-- an instruction's word, or the bits of the field that a number of it does not fit
+abbrev pub Written : Type 0
+Written = Result ℕ Unfit
+
+abbrev pub refusal : ℕ → Written
+refusal n = Err (record { 0 = n })
 
 -- a field of a word: how many bits it has, whether the number that it is to hold fits, and what its bits are
 pub record Field : Type 0 where
@@ -39,8 +45,8 @@ with_sign n v = field n (ltb v (2 ^ (n - 1)) || (leb (2 ^ 32 - 2 ^ (n - 1)) v &&
 
 -- "Refused: 7, a constant, displacement, condition or register number does not fit its field, with the bits the field has"
 abbrev pub behind : Written → Field → Written
-behind (Fit word) f = pick f.fits (Fit (plus (word * 2 ^ f.width) f.value)) (Unfit f.width)
-behind (Unfit n) f = Unfit n
+behind (Ok word) f = pick f.fits (Ok (plus (word * 2 ^ f.width) f.value)) (refusal f.width)
+behind (Err e) f = Err e
 
 -- "of several, the one highest in the word counts": fields from the highest to the lowest, behind the first bits of the word
 abbrev pub joined : Written → List Field → Written
@@ -99,10 +105,10 @@ store_op3 Half = 6
 
 -- op, a register or a condition, op3, rs1 and the second operand
 unfoldable pub long_word : ℕ → ℕ → ℕ → ℕ → Operand → Written
-long_word op rd op3 rs1 x = joined (Fit op) (plain 5 rd ∷ plain 6 op3 ∷ plain 5 rs1 ∷ operand constant13 x)
+long_word op rd op3 rs1 x = joined (Ok op) (plain 5 rd ∷ plain 6 op3 ∷ plain 5 rs1 ∷ operand constant13 x)
 
 unfoldable pub shift_word : ℕ → ℕ → ℕ → Operand → Written
-shift_word rd op3 rs1 x = joined (Fit 2) (plain 5 rd ∷ plain 6 op3 ∷ plain 5 rs1 ∷ operand constant5 x)
+shift_word rd op3 rs1 x = joined (Ok 2) (plain 5 rd ∷ plain 6 op3 ∷ plain 5 rs1 ∷ operand constant5 x)
 
 -- 02, N4: "N2's writer covers them"; what rdy and wry do not have is 0
 unfoldable pub rdy_word : ℕ → Written
@@ -112,20 +118,20 @@ unfoldable pub wry_word : ℕ → Operand → Written
 wry_word rs1 x = long_word 2 0 48 rs1 x
 
 unfoldable pub trap_word : ℕ → ℕ → Operand → Written
-trap_word cond rs1 x = joined (Fit 2) (plain 1 0 ∷ plain 4 cond ∷ plain 6 58 ∷ plain 5 rs1 ∷ operand constant7 x)
+trap_word cond rs1 x = joined (Ok 2) (plain 1 0 ∷ plain 4 cond ∷ plain 6 58 ∷ plain 5 rs1 ∷ operand constant7 x)
 
 unfoldable pub sethi_word : ℕ → ℕ → Written
-sethi_word rd imm = joined (Fit 0) (plain 5 rd ∷ plain 3 4 ∷ plain 22 imm ∷ [])
+sethi_word rd imm = joined (Ok 0) (plain 5 rd ∷ plain 3 4 ∷ plain 22 imm ∷ [])
 
 unfoldable pub branch_word : ℕ → Bool → ℕ → Written
-branch_word cond annul disp = joined (Fit 0) (plain 1 (bit_of annul) ∷ plain 4 cond ∷ plain 3 2 ∷ with_sign 22 disp ∷ [])
+branch_word cond annul disp = joined (Ok 0) (plain 1 (bit_of annul) ∷ plain 4 cond ∷ plain 3 2 ∷ with_sign 22 disp ∷ [])
 
 unfoldable pub call_word : ℕ → Written
-call_word disp = joined (Fit 1) (with_sign 30 disp ∷ [])
+call_word disp = joined (Ok 1) (with_sign 30 disp ∷ [])
 
 -- the word of an instruction, or the bits of the field that refuses it; what is no instruction has no field
 unfoldable pub written_of : Instruction → Written
-written_of Illegal = Unfit 0
+written_of Illegal = refusal 0
 written_of (Call disp) = call_word disp
 written_of (Sethi rd imm) = sethi_word rd imm
 written_of (Bicc cond annul disp) = branch_word cond annul disp

@@ -1,10 +1,10 @@
 // SPARC V8 instruction words: the fields cut from a word, the instruction that it reads as, and the conditions.
 #![tactic(auto)]
 
-ghost use Rattle.std.specs.Prelude.{◌≡◌, ◌||◌, ◌<◌};
+ghost use Rattle.std.specs.Prelude.{◌≡◌, ◌||◌, ◌<◌, ◌^◌, MatchBool};
 ghost use Rattle.numbers.specs.Choice.{find};
 ghost use Rattle.numbers.specs.Number.{signed};
-ghost use Rattle.words.specs.declared.Instruction.TheVariants.{Arithmetic, Jmpl, Ticc, Load, Store, Shift, Rdy, Wry, Window};
+ghost use Rattle.words.specs.declared.Instruction.TheVariants.{Illegal, Arithmetic, Jmpl, Ticc, Load, Store, Shift, Rdy, Wry, Window};
 ghost use Rattle.words.specs.Reader.{bits, bit_set, register_strays, set_from, rdy_strays, strictly, operand_of, sources, format0_of, none2, other_rows, format2_of, format3_of, instruction_of, is_unimp, as_jmpl};
 ghost use Rattle.words.specs.Conditions.{bit_at, holds_of};
 
@@ -73,7 +73,8 @@ pub struct Sources {
 }
 
 // What a word reads as: illegal, or an instruction. Each instruction has one word, if its numbers fit their fields. Displacements
-// count words and are signed, extended to 32 bits.
+// count words and are signed, extended to 32 bits. Illegal is a variant and no None, and a cond or a register any number: `ReadsBack` and
+// `WritesAgain` speak of all of them. rd, rs1 and the second operand stand apart, as V8 names them: in a struct each use would take it apart.
 #[derive(Clone, Copy)]
 pub enum Instruction {
     Illegal,
@@ -103,7 +104,8 @@ pub enum Instruction {
     Window(WindowOperation, u32, u32, Operand),
 }
 
-// What an instruction does to control: all that the rules of places and records tell apart.
+// What an instruction does to control: all that the rules of places and records tell apart. An illegal word's is one of them and no None, as
+// `flow_of` has it.
 #[derive(Clone, Copy)]
 pub enum Flow {
     // an illegal word
@@ -119,99 +121,113 @@ pub enum Flow {
     Jumps(u32),
 }
 
-// An instruction's word, or the bits of the field that a number of it does not fit: of several, the one highest in the word.
-#[derive(Clone, Copy)]
-pub enum Written {
-    Fit(u32),
-    Unfit(u32),
-}
+// The bits of the field that a number of an instruction does not fit: of several, the one highest in the word.
+#[derive(Clone, Copy, Debug, PartialEq, Eq)]
+pub struct Unfit(pub u32);
 
 // ---- the fields of a word, as V8 draws them
+
+// So many bits of a word, from the lowest of them.
+#[inline(always)]
+#[tactic(auto, using(crate::proofs::Reader::masked))]
+fn bits(word: u32, low: u32, width: u32) -> u32
+    requires { (low < 32) × (width < 32) }
+    ensures value { result ≡ bits word low width }
+    ensures below { result < 2 ^ width }
+{
+    (word >> low) & ((1 << width) - 1)
+}
+
+#[inline(always)]
+#[tactic(auto, unfolding(crate::specs::Reader::bit_set))]
+fn bit(word: u32, n: u32) -> bool
+    requires { n < 32 }
+    ensures { result ≡ bit_set word n }
+{
+    bits(word, n, 1) == 1
+}
 
 pub fn op(word: u32) -> u32
     ensures { result ≡ bits word 30 2 }
 {
-    (word >> 30) & 3
+    bits(word, 30, 2)
 }
 
 pub fn op2(word: u32) -> u32
     ensures { result ≡ bits word 22 3 }
 {
-    (word >> 22) & 7
+    bits(word, 22, 3)
 }
 
 pub fn op3(word: u32) -> u32
     ensures { result ≡ bits word 19 6 }
 {
-    (word >> 19) & 63
+    bits(word, 19, 6)
 }
 
 pub fn cond(word: u32) -> u32
     ensures { result ≡ bits word 25 4 }
 {
-    (word >> 25) & 15
+    bits(word, 25, 4)
 }
 
 pub fn annul_bit(word: u32) -> bool
     ensures { result ≡ bit_set word 29 }
 {
-    (word >> 29) & 1 == 1
+    bit(word, 29)
 }
 
 pub fn rd(word: u32) -> u32
     ensures { result ≡ bits word 25 5 }
 {
-    (word >> 25) & 31
+    bits(word, 25, 5)
 }
 
 fn rs1(word: u32) -> u32
     ensures { result ≡ bits word 14 5 }
 {
-    (word >> 14) & 31
+    bits(word, 14, 5)
 }
 
 fn rs2(word: u32) -> u32
     ensures { result ≡ bits word 0 5 }
 {
-    word & 31
+    bits(word, 0, 5)
 }
 
 pub fn constant_bit(word: u32) -> bool
     ensures { result ≡ bit_set word 13 }
 {
-    (word >> 13) & 1 == 1
+    bit(word, 13)
 }
 
 fn imm22(word: u32) -> u32
     ensures { result ≡ bits word 0 22 }
 {
-    word & 4194303
+    bits(word, 0, 22)
 }
 
-// The sign is extended by a sum and a difference, which the compiler makes two shifts of.
 fn simm13(word: u32) -> u32
     ensures { result ≡ signed 13 (bits word 0 13) }
 {
-    let k = word & 8191;
-    numbers::subtract((k + 4096) % 8192, 4096)
+    numbers::signed(13, bits(word, 0, 13))
 }
 
 pub fn disp22(word: u32) -> u32
     ensures { result ≡ signed 22 (bits word 0 22) }
 {
-    let k = imm22(word);
-    numbers::subtract((k + 2097152) % 4194304, 2097152)
+    numbers::signed(22, bits(word, 0, 22))
 }
 
 pub fn disp30(word: u32) -> u32
     ensures { result ≡ signed 30 (bits word 0 30) }
 {
-    let k = word & 1073741823;
-    numbers::subtract((k + 536870912) % 1073741824, 536870912)
+    numbers::signed(30, bits(word, 0, 30))
 }
 
 // ---- the reader
 
+#[tactic(auto, unfolding(crate::specs::Reader::operand_of))]
 fn second_operand(word: u32) -> Operand
     ensures { result ≡ operand_of word }
 {
@@ -226,89 +242,75 @@ fn second_operand(word: u32) -> Operand
 pub fn high8(word: u32) -> u32
     ensures { result ≡ bits word 5 8 }
 {
-    (word >> 5) & 255
+    bits(word, 5, 8)
 }
 
 fn high6(word: u32) -> u32
     ensures { result ≡ bits word 7 6 }
 {
-    (word >> 7) & 63
+    bits(word, 7, 6)
 }
 
-// Whether a bit is set that is unused where the second operand is a register.
-fn register_strays(word: u32) -> bool
-    ensures { result ≡ register_strays word }
-{
-    if constant_bit(word) {
-        return false;
-    }
-    high8(word) != 0
-}
-
-// The same of a Ticc's constant, and of its bit 29.
+// Whether a bit is set that a Ticc does not use beside a constant, or its bit 29.
+#[tactic(auto, unfolding(crate::specs::Reader::set_from))]
 pub fn trap_strays(word: u32) -> bool
     ensures { result ≡ bit_set word 29 || set_from 7 word }
 {
-    if annul_bit(word) {
-        return true;
-    }
-    high6(word) != 0
+    annul_bit(word) || high6(word) != 0
 }
 
 // What each form makes of a word: its fields are cut and its unused bits tested here, by op3 and not before, so that no word pays for another.
-// In the three that are met most a constant is told first, and only a register's word is tested.
+// A form is a line of its own, whose contract says what it makes; what they share stands in `unless_strays`.
 
+// What is made of rd, rs1 and the second operand, unless a bit is set that is unused where this is a register. A constant is told first, and only a
+// register's word is tested.
+#[inline(always)]
+#[tactic(auto, unfolding(crate::specs::Reader::register_strays, crate::specs::Reader::set_from, crate::specs::Reader::operand_of))]
+fn unless_strays<F: FnOnce(u32, u32, Operand) -> Instruction>(word: u32, make: F) -> Instruction
+    requires { F.IsAlwaysCallable make }
+    ensures { MatchBool (register_strays word) (result ≡ Illegal) (F.post make (bits word 25 5) (bits word 14 5) (operand_of word) result) }
+{
+    if constant_bit(word) {
+        return make(rd(word), rs1(word), Operand::Constant(simm13(word)));
+    }
+    if high8(word) != 0 {
+        return Instruction::Illegal;
+    }
+    make(rd(word), rs1(word), Operand::Register(rs2(word) as usize))
+}
+
+#[tactic(auto, using(crate::proofs::Reader::made), unfolding(crate::specs::Reader::strictly, crate::specs::Reader::unused_set))]
 fn arithmetic(o: Operation, cc: bool, word: u32) -> Instruction
     ensures { result ≡ strictly word (Arithmetic o cc (bits word 25 5) (bits word 14 5) (operand_of word)) }
 {
-    if constant_bit(word) {
-        let k = Operand::Constant(simm13(word));
-        return Instruction::Arithmetic(o, cc, rd(word), rs1(word), k);
-    }
-    if high8(word) != 0 {
-        return Instruction::Illegal;
-    }
-    let x = Operand::Register(rs2(word) as usize);
-    Instruction::Arithmetic(o, cc, rd(word), rs1(word), x)
+    unless_strays(
+        word,
+        |rd, rs1, x| Instruction::Arithmetic(o, cc, rd, rs1, x),
+    )
 }
 
+#[tactic(auto, using(crate::proofs::Reader::made), unfolding(crate::specs::Reader::strictly, crate::specs::Reader::unused_set))]
 fn jump(word: u32) -> Instruction
     ensures { result ≡ strictly word (Jmpl (bits word 25 5) (bits word 14 5) (operand_of word)) }
 {
-    if register_strays(word) {
-        return Instruction::Illegal;
-    }
-    Instruction::Jmpl(rd(word), rs1(word), second_operand(word))
+    unless_strays(word, |rd, rs1, x| Instruction::Jmpl(rd, rs1, x))
 }
 
+#[tactic(auto, using(crate::proofs::Reader::made), unfolding(crate::specs::Reader::strictly, crate::specs::Reader::unused_set))]
 fn load(o: LoadOperation, word: u32) -> Instruction
     ensures { result ≡ strictly word (Load o (bits word 25 5) (bits word 14 5) (operand_of word)) }
 {
-    if constant_bit(word) {
-        let k = Operand::Constant(simm13(word));
-        return Instruction::Load(o, rd(word), rs1(word), k);
-    }
-    if high8(word) != 0 {
-        return Instruction::Illegal;
-    }
-    let x = Operand::Register(rs2(word) as usize);
-    Instruction::Load(o, rd(word), rs1(word), x)
+    unless_strays(word, |rd, rs1, x| Instruction::Load(o, rd, rs1, x))
 }
 
+#[tactic(auto, using(crate::proofs::Reader::made), unfolding(crate::specs::Reader::strictly, crate::specs::Reader::unused_set))]
 fn store(w: Width, word: u32) -> Instruction
     ensures { result ≡ strictly word (Store w (bits word 25 5) (bits word 14 5) (operand_of word)) }
 {
-    if constant_bit(word) {
-        let k = Operand::Constant(simm13(word));
-        return Instruction::Store(w, rd(word), rs1(word), k);
-    }
-    if high8(word) != 0 {
-        return Instruction::Illegal;
-    }
-    let x = Operand::Register(rs2(word) as usize);
-    Instruction::Store(w, rd(word), rs1(word), x)
+    unless_strays(word, |rd, rs1, x| Instruction::Store(w, rd, rs1, x))
 }
 
+#[tactic(auto, unfolding(crate::specs::Reader::strictly, crate::specs::Reader::unused_set, crate::specs::Reader::set_from))]
 fn shift(o: ShiftOperation, word: u32) -> Instruction
     ensures { result ≡ strictly word (Shift o (bits word 25 5) (bits word 14 5) (operand_of word)) }
 {
@@ -318,43 +320,39 @@ fn shift(o: ShiftOperation, word: u32) -> Instruction
     Instruction::Shift(o, rd(word), rs1(word), second_operand(word))
 }
 
+#[tactic(auto, using(crate::proofs::Reader::made), unfolding(crate::specs::Reader::strictly, crate::specs::Reader::unused_set))]
 fn window(o: WindowOperation, word: u32) -> Instruction
     ensures { result ≡ strictly word (Window o (bits word 25 5) (bits word 14 5) (operand_of word)) }
 {
-    if register_strays(word) {
-        return Instruction::Illegal;
-    }
-    Instruction::Window(o, rd(word), rs1(word), second_operand(word))
+    unless_strays(word, |rd, rs1, x| Instruction::Window(o, rd, rs1, x))
 }
 
+#[tactic(auto, unfolding(crate::specs::Reader::strictly, crate::specs::Reader::unused_set))]
 fn trap(word: u32) -> Instruction
     ensures { result ≡ strictly word (Ticc (bits word 25 4) (bits word 14 5) (operand_of word)) }
 {
-    if register_strays(word) {
-        return Instruction::Illegal;
-    }
     if trap_strays(word) {
         return Instruction::Illegal;
     }
-    Instruction::Ticc(cond(word), rs1(word), second_operand(word))
+    let cond = cond(word);
+    unless_strays(word, |_, rs1, x| Instruction::Ticc(cond, rs1, x))
 }
 
 // Bits 13 to 0, which a rdy does not use; nor does it use rs1, nor a wry rd.
 fn low14(word: u32) -> u32
     ensures { result ≡ bits word 0 14 }
 {
-    word & 16383
+    bits(word, 0, 14)
 }
 
+#[tactic(auto, unfolding(crate::specs::Reader::rdy_strays))]
 pub fn rdy_strays(word: u32) -> bool
     ensures { result ≡ rdy_strays word }
 {
-    if rs1(word) != 0 {
-        return true;
-    }
-    low14(word) != 0
+    rs1(word) != 0 || low14(word) != 0
 }
 
+#[tactic(auto, unfolding(crate::specs::Reader::strictly, crate::specs::Reader::unused_set))]
 fn rdy(word: u32) -> Instruction
     ensures { result ≡ strictly word (Rdy (bits word 25 5)) }
 {
@@ -364,28 +362,25 @@ fn rdy(word: u32) -> Instruction
     Instruction::Rdy(rd(word))
 }
 
+#[tactic(auto, unfolding(crate::specs::Reader::strictly, crate::specs::Reader::unused_set, crate::specs::Reader::wry_strays))]
 fn wry(word: u32) -> Instruction
     ensures { result ≡ strictly word (Wry (sources (bits word 14 5) (operand_of word))) }
 {
-    if register_strays(word) {
-        return Instruction::Illegal;
-    }
     if rd(word) != 0 {
         return Instruction::Illegal;
     }
-    let s = Sources {
-        rs1: rs1(word),
-        operand: second_operand(word),
-    };
-    Instruction::Wry(s)
+    unless_strays(
+        word,
+        |_, rs1, operand| Instruction::Wry(Sources { rs1, operand }),
+    )
 }
 
 // Format 0, by op2: branches and sethi.
+#[tactic(auto, unfolding(crate::specs::Reader::format0_of))]
 fn format0(word: u32) -> Instruction
     ensures { result ≡ format0_of word }
 {
-    let k = op2(word);
-    match k {
+    match op2(word) {
         2 => Instruction::Bicc(cond(word), annul_bit(word), disp22(word)),
         4 => Instruction::Sethi(rd(word), imm22(word)),
         _ => Instruction::Illegal,
@@ -393,6 +388,7 @@ fn format0(word: u32) -> Instruction
 }
 
 // Format 2, by op3: shifts, Y, jmpl, Ticc and windows.
+#[tactic(auto, unfolding(crate::specs::Reader::strictly, crate::specs::Reader::unused_set))]
 fn other2(op3: u32, word: u32) -> Instruction
     ensures { result ≡ strictly word (find other_rows none2 op3 (bits word 25 4) (bits word 25 5) (bits word 14 5) (operand_of word)) }
 {
@@ -411,6 +407,7 @@ fn other2(op3: u32, word: u32) -> Instruction
 }
 
 // Format 2, by op3: arithmetic, and the others.
+#[tactic(auto, unfolding(crate::specs::Reader::format2_of))]
 fn format2(op3: u32, word: u32) -> Instruction
     ensures { result ≡ strictly word (format2_of op3 (bits word 25 4) (bits word 25 5) (bits word 14 5) (operand_of word)) }
 {
@@ -444,6 +441,7 @@ fn format2(op3: u32, word: u32) -> Instruction
 }
 
 // Format 3, by op3: loads and stores.
+#[tactic(auto, unfolding(crate::specs::Reader::format3_of, crate::specs::Reader::strictly, crate::specs::Reader::unused_set))]
 fn format3(op3: u32, word: u32) -> Instruction
     ensures { result ≡ strictly word (format3_of op3 (bits word 25 5) (bits word 14 5) (operand_of word)) }
 {
@@ -464,39 +462,31 @@ fn format3(op3: u32, word: u32) -> Instruction
 pub fn read_instruction(word: u32) -> Instruction
     ensures { result ≡ instruction_of word }
 {
-    let k = op(word);
-    if k < 2 {
-        if k == 0 {
-            return format0(word);
-        }
-        return Instruction::Call(disp30(word));
+    match op(word) {
+        0 => format0(word),
+        1 => Instruction::Call(disp30(word)),
+        2 => format2(op3(word), word),
+        _ => format3(op3(word), word),
     }
-    if k == 2 {
-        return format2(op3(word), word);
-    }
-    format3(op3(word), word)
 }
 
 // The same, for a jmpl alone. Where only a jmpl will do, this is quicker, and the whole reader keeps its one caller.
+#[tactic(auto, using(crate::proofs::Jmpl::jmpl_read, crate::proofs::Jmpl::no_jmpl_op, crate::proofs::Jmpl::no_jmpl_op3))]
 pub fn read_jmpl(word: u32) -> Instruction
     ensures { result ≡ as_jmpl (instruction_of word) }
 {
-    if op(word) == 2 {
-        if op3(word) == 56 {
-            return jump(word);
-        }
+    if op(word) == 2 && op3(word) == 56 {
+        return jump(word);
     }
     Instruction::Illegal
 }
 
 // Whether a word is an unimp, by its raw bits.
+#[tactic(auto, unfolding(crate::specs::Reader::is_unimp))]
 pub fn is_unimp(word: u32) -> bool
     ensures { result ≡ is_unimp word }
 {
-    if op(word) == 0 {
-        return op2(word) == 0;
-    }
-    false
+    op(word) == 0 && op2(word) == 0
 }
 
 // ---- conditions
@@ -507,22 +497,20 @@ const CONDITIONS: [u16; 16] = [
     0x0505, 0x5555, 0x00FF, 0x3333,
 ];
 
+#[tactic(auto, unfolding(crate::specs::Conditions::bit_at, crate::specs::Reader::bit_set, crate::specs::Reader::bits))]
 fn bit_at(row: u16, n: u32) -> bool
     requires { n < 16 }
     ensures { result ≡ bit_at row n }
 {
-    let w = row as u32;
-    (w >> n) & 1 == 1
+    bit(u32::from(row), n)
 }
 
 // Whether a condition holds of the flags 8N + 4Z + 2V + C, of which the low four bits count; one above 15 never does.
 pub fn holds(cond: u32, nzvc: u32) -> bool
     ensures { result ≡ holds_of cond nzvc }
 {
-    let k = cond as usize;
-    if k < 16 {
-        bit_at(CONDITIONS[k], nzvc % 16)
-    } else {
-        false
+    match CONDITIONS.get(cond as usize) {
+        Some(row) => bit_at(*row, nzvc % 16),
+        None => false,
     }
 }

@@ -1,8 +1,8 @@
 -- Laws of fields: what the writer puts behind the bits so far.
-use Prim.Native.Nat.{ℕ, ◌+◌, ◌-◌, ◌*◌, ◌/◌, ◌%◌, ◌^◌, ◌<◌, ◌≤◌, min}
+use Prim.Native.Nat.{ℕ, ◌+◌, ◌-◌, ◌*◌, ◌/◌, ◌%◌, ◌^◌, ◌<◌, ◌≤◌}
 use mathlib.Core.Path.{◌≡◌, refl}
 use mathlib.Core.Bool.{Bool, true, false}
-use native.Mathlib.Nat.{mod-add-mod, mod-eq_of_lt, mod-lt, div-eq_of_lt, div-lt_iff_lt-mul, min-eq_left, min-eq_right}
+use native.Mathlib.Nat.{mod-add-mod, mod-eq_of_lt, mod-lt, div-eq_of_lt, div-lt_iff_lt-mul}
 use native.Mathlib.Omega.{arith}
 use lib.Dec.{ltb}
 use lib.Pow.{pow_pos}
@@ -10,9 +10,8 @@ use borrow.Author.Tests.{lt-ltb, le-ltb, le-leb, lt-leb, ltb-true, ltb-false}
 use Rattle.numbers.specs.Number.{plus}
 use Rattle.words.specs.declared.Operation.{Operation}
 use Rattle.words.specs.declared.Operation.TheVariants.{Add, And, Or, Xor, Sub, Andn, Orn, Xnor, Addx, Subx, Umul, Smul}
-use Rattle.words.specs.declared.Written.{Written}
-use Rattle.words.specs.declared.Written.TheVariants.{Fit, Unfit}
-use Rattle.words.specs.Writer.{field, plain, with_sign, behind, arithmetic_op3}
+use Rattle.std.proofs.Common.{Ok}
+use Rattle.words.specs.Writer.{refusal, plain, with_sign, behind, arithmetic_op3}
 
 below_power : (v n : ℕ) → v / 2 ^ n ≡ 0 → v < 2 ^ n
 below_power v n e =
@@ -28,41 +27,28 @@ not_below v n e = go (ltb v (2 ^ n)) refl
     go false t = ltb-false v (2 ^ n) t
 
 -- a plain number
-pub put_fits : (word n v r : ℕ) → v / 2 ^ n ≡ 0 → r ≡ plus (word * 2 ^ n % 2 ^ 32) v → Fit r ≡ behind (Fit word) (plain n v)
+pub put_fits : (word n v r : ℕ) → v / 2 ^ n ≡ 0 → r ≡ plus (word * 2 ^ n % 2 ^ 32) v → Ok r ≡ behind (Ok word) (plain n v)
 unfolding plus
 put_fits word n v r h e = rw (lt-ltb v (2 ^ n) (below_power v n h), e, mod-add-mod (word * 2 ^ n) (2 ^ 32) v)
 
-pub put_unfit : (word n v : ℕ) → (v / 2 ^ n ≡ 0 → ⊥) → Unfit n ≡ behind (Fit word) (plain n v)
+pub put_unfit : (word n v : ℕ) → (v / 2 ^ n ≡ 0 → ⊥) → refusal n ≡ behind (Ok word) (plain n v)
 put_unfit word n v h = rw (le-ltb v (2 ^ n) (not_below v n h))
 
--- a number that does not fit leaves no other trace
-unfit : (w : Written) (n u v : ℕ) → behind w (field n false u) ≡ behind w (field n false v)
-unfit (Fit word) n u v = refl
-unfit (Unfit k) n u v = refl
-
 -- a signed number, over the weight h of the sign bit
-module _ (w : Written) (n h v : ℕ) (p : h ≡ 2 ^ (n - 1)) (q : h + h ≡ 2 ^ n) (l : h ≤ 1073741824) where
-  pub put_low : v < h → behind w (plain n v) ≡ behind w (with_sign n v)
+module _ (word n h v : ℕ) (p : h ≡ 2 ^ (n - 1)) (q : h + h ≡ 2 ^ n) (l : h + h ≤ 2147483648) where
+  pub put_low : v < h → behind (Ok word) (plain n (v % (h + h))) ≡ behind (Ok word) (with_sign n v)
   put_low b =
       let m : v % (h + h) ≡ v = mod-eq_of_lt (omega arith) in
-      rw (← p, ← q, lt-ltb v h b, lt-ltb v (h + h) (omega arith), m)
+      rw (← p, ← q, lt-ltb v h b, m, lt-ltb v (h + h) (omega arith))
 
-  pub put_high_lem : h ≤ v → 4294967295 - h < v → v < 4294967296 → 0 < h → behind w (plain n (v % (h + h))) ≡ behind w (with_sign n v)
-  put_high_lem a b c z =
+  pub put_high_lem : h ≤ v → 4294967295 - h < v → v < 4294967296 → behind (Ok word) (plain n (v % (h + h))) ≡ behind (Ok word) (with_sign n v)
+  put_high_lem a b c =
+      let z : 0 < h = omega arith in
       let m : v % (h + h) < h + h = mod-lt v (omega arith) in
       rw (← p, ← q, le-ltb v h a, le-leb (4294967296 - h) v (omega arith), lt-ltb v 4294967296 c, lt-ltb (v % (h + h)) (h + h) m)
 
-  pub put_none : h ≤ v → v ≤ 4294967295 - h → behind w (plain n (h + h)) ≡ behind w (with_sign n v)
-  put_none a b =
-      rw (← p, ← q, le-ltb v h a, lt-leb (4294967296 - h) v (omega arith), le-ltb (h + h) (h + h) (omega arith)) (unfit w n (h + h) (v % (h + h)))
-
--- a register's number, cut to 32
-pub put_narrow : (w : Written) (i : ℕ) → behind w (plain 5 (min i 32)) ≡ behind w (plain 5 i)
-put_narrow w i = go (ltb i 32) refl
-  where
-    go : (b : Bool) → ltb i 32 ≡ b → behind w (plain 5 (min i 32)) ≡ behind w (plain 5 i)
-    go true t = let h : i < 32 = ltb-true i 32 t in let e : min i 32 ≡ i = min-eq_left (omega arith) in rw e
-    go false t = let h : 32 ≤ i = ltb-false i 32 t in let e : min i 32 ≡ 32 = min-eq_right h in rw (e, le-ltb i 32 h) (unfit w 5 32 i)
+  pub put_none : h ≤ v → v ≤ 4294967295 - h → refusal n ≡ behind (Ok word) (with_sign n v)
+  put_none a b = rw (← p, le-ltb v h a, lt-leb (4294967296 - h) v (omega arith))
 
 -- the flag form of an operation
 pub flag_form : (o : Operation) → arithmetic_op3 o false + 16 ≡ arithmetic_op3 o true

@@ -1,164 +1,144 @@
 // The word of an instruction, field behind field, or the bits of the field that a number of it does not fit.
 #![tactic(auto)]
 
-ghost use Rattle.std.specs.Prelude.{◌≡◌, false, List, [], ◌∷◌, ℕ, ◌+◌, ◌-◌, ◌^◌, ◌<◌, ◌≤◌, min};
-ghost use Rattle.words.specs.Conditions.{bit_of};
+ghost use Rattle.std.specs.Prelude.{◌≡◌, false, List, [], ◌∷◌, ℕ, ◌-◌, ◌<◌, Ok};
 ghost use Rattle.words.specs.declared.Operand.TheVariants.{Register};
-ghost use Rattle.words.specs.declared.Written.TheVariants.{Fit};
-ghost use Rattle.words.specs.Writer.{Field, plain, with_sign, behind, joined, operand, constant13, constant7, constant5, arithmetic_op3, shift_op3, window_op3, load_op3, store_op3, long_word, shift_word, rdy_word, wry_word, trap_word, sethi_word, branch_word, call_word, written_of};
+ghost use Rattle.words.specs.Writer.{Field, plain, with_sign, behind, joined, operand, constant13, arithmetic_op3, shift_op3, window_op3, load_op3, store_op3, long_word, shift_word, rdy_word, wry_word, trap_word, sethi_word, branch_word, call_word, written_of};
 
 use words::{
-    Instruction, LoadOperation, Operand, Operation, ShiftOperation, Width, WindowOperation, Written,
+    Instruction, LoadOperation, Operand, Operation, ShiftOperation, Sources, Unfit, Width,
+    WindowOperation,
 };
 
 // The bits so far with a field of so many bits behind them.
-fn put_field(w: Written, width: u32, v: u32) -> Written
+#[tactic(auto, using(crate::proofs::Fields::put_fits))]
+fn put_field(word: u32, width: u32, v: u32) -> Result<u32, Unfit>
     requires { width < 32 }
-    ensures { result ≡ behind w (plain width v) }
+    ensures { result ≡ behind (Ok word) (plain width v) }
 {
-    match w {
-        Written::Fit(word) => {
-            if v >> width == 0 {
-                let joined = numbers::add(word << width, v);
-                return Written::Fit(joined);
-            }
-            Written::Unfit(width)
-        }
-        Written::Unfit(n) => Written::Unfit(n),
+    if v >> width != 0 {
+        return Err(Unfit(width));
     }
+    Ok(numbers::add(word << width, v))
 }
 
-// The same for a signed number; half is the weight of the field's sign bit. A number that does not fit goes on as one that does not.
-fn put_signed(w: Written, width: u32, half: u32, v: u32) -> Written
-    requires { (width < 32) × (half ≡ 2 ^ (width - 1)) × (half + half ≡ 2 ^ width) × (half ≤ 1073741824) × (0 < half) }
-    ensures { result ≡ behind w (with_sign width v) }
+// The same for a signed number.
+fn put_signed(word: u32, width: u32, v: u32) -> Result<u32, Unfit>
+    requires { (0 < width) × (width < 32) }
+    ensures { result ≡ behind (Ok word) (with_sign width v) }
 {
-    let whole = half + half;
-    if v < half {
-        return put_field(w, width, v);
+    let half = 1 << (width - 1);
+    if v < half || u32::MAX - half < v {
+        return put_field(word, width, v % (half + half));
     }
-    if 4294967295 - half < v {
-        return put_field(w, width, v % whole);
-    }
-    put_field(w, width, whole)
+    Err(Unfit(width))
 }
 
-// A register's number in 32 bits; one that no register has stays such a one.
-fn narrow(i: usize) -> u32
-    ensures { result ≡ min i 32 }
+// A register, its number behind clear bits.
+fn put_register(word: u32, i: usize) -> Result<u32, Unfit>
+    ensures { result ≡ joined (Ok word) (plain 1 0 ∷ plain 8 0 ∷ plain 5 i ∷ []) }
 {
+    let clear = put_field(put_field(word, 1, 0)?, 8, 0)?;
     if i < 32 {
-        return i as u32;
+        return put_field(clear, 5, i as u32);
     }
-    32
+    Err(Unfit(5))
 }
 
-fn put_register(w: Written, i: usize) -> Written
-    ensures { (f : ℕ → List Field) → result ≡ joined w (operand f (Register i)) }
-{
-    put_field(put_field(put_field(w, 1, 0), 8, 0), 5, narrow(i))
-}
-
-// The second operand, its constant a signed one of 13 bits, one of 5 and one of 7.
-fn put_operand13(w: Written, x: Operand) -> Written
-    ensures { result ≡ joined w (operand constant13 x) }
+// The second operand, its constant a signed one of 13 bits.
+fn put_operand(word: u32, x: Operand) -> Result<u32, Unfit>
+    ensures { result ≡ joined (Ok word) (operand constant13 x) }
 {
     match x {
-        Operand::Register(i) => put_register(w, i),
-        Operand::Constant(k) => put_signed(put_field(w, 1, 1), 13, 4096, k),
+        Operand::Register(i) => put_register(word, i),
+        Operand::Constant(k) => put_signed(put_field(word, 1, 1)?, 13, k),
     }
 }
 
-fn put_operand5(w: Written, x: Operand) -> Written
-    ensures { result ≡ joined w (operand constant5 x) }
+// The same, its constant one of so few bits, without a sign, behind clear ones.
+fn put_low_operand(word: u32, width: u32, x: Operand) -> Result<u32, Unfit>
+    requires { width < 13 }
+    ensures { result ≡ joined (Ok word) (operand (λ k. plain (13 - width) 0 ∷ plain width k ∷ []) x) }
 {
     match x {
-        Operand::Register(i) => put_register(w, i),
-        Operand::Constant(k) => put_field(put_field(put_field(w, 1, 1), 8, 0), 5, k),
-    }
-}
-
-fn put_operand7(w: Written, x: Operand) -> Written
-    ensures { result ≡ joined w (operand constant7 x) }
-{
-    match x {
-        Operand::Register(i) => put_register(w, i),
-        Operand::Constant(k) => put_field(put_field(put_field(w, 1, 1), 6, 0), 7, k),
+        Operand::Register(i) => put_register(word, i),
+        Operand::Constant(k) => put_field(
+            put_field(put_field(word, 1, 1)?, 13 - width, 0)?,
+            width,
+            k,
+        ),
     }
 }
 
 // op, rd, op3 and rs1.
-fn upper(op: u32, rd: u32, op3: u32, rs1: u32) -> Written
-    ensures { result ≡ joined (Fit op) (plain 5 rd ∷ plain 6 op3 ∷ plain 5 rs1 ∷ []) }
+fn upper(op: u32, rd: u32, op3: u32, rs1: u32) -> Result<u32, Unfit>
+    ensures { result ≡ joined (Ok op) (plain 5 rd ∷ plain 6 op3 ∷ plain 5 rs1 ∷ []) }
 {
-    let w = Written::Fit(op);
-    put_field(put_field(put_field(w, 5, rd), 6, op3), 5, rs1)
+    put_field(put_field(put_field(op, 5, rd)?, 6, op3)?, 5, rs1)
 }
 
-pub fn long_word(op: u32, rd: u32, op3: u32, rs1: u32, x: Operand) -> Written
+#[tactic(auto, unfolding(words::specs::Writer::long_word))]
+pub fn long_word(op: u32, rd: u32, op3: u32, rs1: u32, x: Operand) -> Result<u32, Unfit>
     ensures { result ≡ long_word op rd op3 rs1 x }
 {
-    put_operand13(upper(op, rd, op3, rs1), x)
+    put_operand(upper(op, rd, op3, rs1)?, x)
 }
 
-pub fn shift_word(rd: u32, op3: u32, rs1: u32, x: Operand) -> Written
+#[tactic(auto, unfolding(words::specs::Writer::shift_word))]
+pub fn shift_word(rd: u32, op3: u32, rs1: u32, x: Operand) -> Result<u32, Unfit>
     ensures { result ≡ shift_word rd op3 rs1 x }
 {
-    put_operand5(upper(2, rd, op3, rs1), x)
+    put_low_operand(upper(2, rd, op3, rs1)?, 5, x)
 }
 
 // What they do not use is written as 0: rs1 and the second operand of a rdy, rd of a wry.
-pub fn rdy_word(rd: u32) -> Written
+#[tactic(auto, unfolding(words::specs::Writer::rdy_word))]
+pub fn rdy_word(rd: u32) -> Result<u32, Unfit>
     ensures { result ≡ rdy_word rd }
 {
     long_word(2, rd, 40, 0, Operand::Register(0))
 }
 
-pub fn wry_word(rs1: u32, x: Operand) -> Written
+#[tactic(auto, unfolding(words::specs::Writer::wry_word))]
+pub fn wry_word(rs1: u32, x: Operand) -> Result<u32, Unfit>
     ensures { result ≡ wry_word rs1 x }
 {
     long_word(2, 0, 48, rs1, x)
 }
 
-pub fn trap_word(cond: u32, rs1: u32, x: Operand) -> Written
+#[tactic(auto, unfolding(words::specs::Writer::trap_word))]
+pub fn trap_word(cond: u32, rs1: u32, x: Operand) -> Result<u32, Unfit>
     ensures { result ≡ trap_word cond rs1 x }
 {
-    let w = Written::Fit(2);
-    let first = put_field(put_field(w, 1, 0), 4, cond);
-    put_operand7(put_field(put_field(first, 6, 58), 5, rs1), x)
+    let first = put_field(put_field(2, 1, 0)?, 4, cond)?;
+    put_low_operand(put_field(put_field(first, 6, 58)?, 5, rs1)?, 7, x)
 }
 
-pub fn sethi_word(rd: u32, imm: u32) -> Written
+#[tactic(auto, unfolding(words::specs::Writer::sethi_word))]
+pub fn sethi_word(rd: u32, imm: u32) -> Result<u32, Unfit>
     ensures { result ≡ sethi_word rd imm }
 {
-    let w = Written::Fit(0);
-    put_field(put_field(put_field(w, 5, rd), 3, 4), 22, imm)
+    put_field(put_field(put_field(0, 5, rd)?, 3, 4)?, 22, imm)
 }
 
-pub fn one_bit(b: bool) -> u32
-    ensures { result ≡ bit_of b }
-{
-    if b {
-        return 1;
-    }
-    0
-}
-
-pub fn branch_word(cond: u32, annul: bool, disp: u32) -> Written
+#[tactic(auto, unfolding(words::specs::Writer::branch_word))]
+pub fn branch_word(cond: u32, annul: bool, disp: u32) -> Result<u32, Unfit>
     ensures { result ≡ branch_word cond annul disp }
 {
-    let w = Written::Fit(0);
-    let first = put_field(put_field(w, 1, one_bit(annul)), 4, cond);
-    put_signed(put_field(first, 3, 2), 22, 2097152, disp)
+    let first = put_field(put_field(0, 1, u32::from(annul))?, 4, cond)?;
+    put_signed(put_field(first, 3, 2)?, 22, disp)
 }
 
-pub fn call_word(disp: u32) -> Written
+#[tactic(auto, unfolding(words::specs::Writer::call_word))]
+pub fn call_word(disp: u32) -> Result<u32, Unfit>
     ensures { result ≡ call_word disp }
 {
-    let w = Written::Fit(1);
-    put_signed(w, 30, 536870912, disp)
+    put_signed(1, 30, disp)
 }
 
+// The op3 of each operation. An `impl From` for u32 would be the same match, under a name that does not say op3.
+
+#[tactic(auto, unfolding(words::specs::Writer::arithmetic_op3))]
 fn plain_op3(o: Operation) -> u32
     ensures { (result ≡ arithmetic_op3 o false) × (result < 16) }
 {
@@ -179,6 +159,7 @@ fn plain_op3(o: Operation) -> u32
 }
 
 // The flag form has bit 4 of op3 set.
+#[tactic(auto, using(crate::proofs::Fields::flag_form))]
 pub fn arithmetic_op3(o: Operation, cc: bool) -> u32
     ensures { (result ≡ arithmetic_op3 o cc) × (result < 64) }
 {
@@ -189,6 +170,7 @@ pub fn arithmetic_op3(o: Operation, cc: bool) -> u32
     k
 }
 
+#[tactic(auto, unfolding(words::specs::Writer::shift_op3))]
 pub fn shift_op3(o: ShiftOperation) -> u32
     ensures { (result ≡ shift_op3 o) × (result < 64) }
 {
@@ -199,6 +181,7 @@ pub fn shift_op3(o: ShiftOperation) -> u32
     }
 }
 
+#[tactic(auto, unfolding(words::specs::Writer::window_op3))]
 pub fn window_op3(o: WindowOperation) -> u32
     ensures { (result ≡ window_op3 o) × (result < 64) }
 {
@@ -208,6 +191,7 @@ pub fn window_op3(o: WindowOperation) -> u32
     }
 }
 
+#[tactic(auto, unfolding(words::specs::Writer::load_op3))]
 pub fn load_op3(o: LoadOperation) -> u32
     ensures { (result ≡ load_op3 o) × (result < 64) }
 {
@@ -220,6 +204,7 @@ pub fn load_op3(o: LoadOperation) -> u32
     }
 }
 
+#[tactic(auto, unfolding(words::specs::Writer::store_op3))]
 pub fn store_op3(w: Width) -> u32
     ensures { (result ≡ store_op3 w) × (result < 64) }
 {
@@ -231,11 +216,12 @@ pub fn store_op3(w: Width) -> u32
 }
 
 // The word of an instruction, unused bits 0. What is no instruction is refused with 0 bits.
-pub fn write_instruction(i: Instruction) -> Written
+#[tactic(auto, unfolding(words::specs::Writer::written_of))]
+pub fn write_instruction(i: Instruction) -> Result<u32, Unfit>
     ensures { result ≡ written_of i }
 {
     match i {
-        Instruction::Illegal => Written::Unfit(0),
+        Instruction::Illegal => Err(Unfit(0)),
         Instruction::Call(disp) => call_word(disp),
         Instruction::Sethi(rd, imm) => sethi_word(rd, imm),
         Instruction::Bicc(cond, annul, disp) => branch_word(cond, annul, disp),
@@ -252,10 +238,7 @@ pub fn write_instruction(i: Instruction) -> Written
         Instruction::Store(w, rd, rs1, x) => long_word(3, rd, store_op3(w), rs1, x),
         Instruction::Shift(o, rd, rs1, x) => shift_word(rd, shift_op3(o), rs1, x),
         Instruction::Rdy(rd) => rdy_word(rd),
-        Instruction::Wry(s) => {
-            let x = s.operand;
-            wry_word(s.rs1, x)
-        }
+        Instruction::Wry(Sources { rs1, operand }) => wry_word(rs1, operand),
         Instruction::Window(o, rd, rs1, x) => long_word(2, rd, window_op3(o), rs1, x),
     }
 }

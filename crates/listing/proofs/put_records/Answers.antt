@@ -2,36 +2,20 @@ use Rattle.listing.proofs.Lines.{record_turn, no_record_lines}
 use Rattle.listing.proofs.Writing.{goes_on, written_end}
 use Rattle.listing.specs.Listing.{record_lines}
 use lib.ListN.{length}
-use native.Mathlib.Nat.{sub-zero}
 use native.Mathlib.Omega.{arith}
-use mathlib.Core.Path.{refl}
+use mathlib.Core.Path.{◌∙◌}
 use Prim.Native.Nat.{◌+◌, ◌-◌, ◌≤◌}
 use Rattle.listing.proofs.put_records.Goals as goal
 
-pub loop-i-init : goal.loop-i-init
-loop-i-init c = (omega arith, refl, omega arith, rw sub-zero, rw sub-zero)
-
-pub number-kind-requires : goal.number-kind-requires
-number-kind-requires c = omega arith
-
-pub number-first-requires : goal.number-first-requires
-number-first-requires c = omega arith
-
-pub number-second-requires : goal.number-second-requires
-number-second-requires c = omega arith
-
-pub put_line-k-requires : goal.put_line-k-requires
-put_line-k-requires c = omega arith
-
 pub loop-i-preserved : goal.loop-i-preserved
 loop-i-preserved c = let b = c.loop-i in
-    let w = c.put_line-k.ensures in
-    let o : b.k ≤ length b.out = omega arith in
+    let w = c.put_line.ensures.written in
+    let o : b.text.len ≤ length b.text.out.now = omega arith in
     let z = record_turn c.args.records.now c.args.count b.i c.loop-i-test.true c.number-kind.ensures c.number-first.ensures c.number-second.ensures in
     let turn = goes_on (record_lines c.args.records.now (c.args.count - (b.i + 1)) (b.i + 1)) _ _ o w (rw z at b.invariant.3) (rw z at b.invariant.4) in
-    (omega arith, omega arith, omega (arith, w.end, w.fits), turn.0, turn.1)
+    (c.put_line.ensures.same_reference ∙ b.invariant.0, w.kept ∙ b.invariant.1, omega (arith, w.end, w.fits), turn.0, turn.1)
 
 pub returns : goal.returns
 returns c = let b = c.loop-i in
     let z = no_record_lines c.args.records.now c.args.count b.i c.loop-i-test.false in
-    written_end _ (rw z at b.invariant.3) (rw z at b.invariant.4) (omega arith)
+    record { same_reference = b.invariant.0; written = written_end _ (rw z at b.invariant.3) (rw z at b.invariant.4) (omega arith) b.invariant.1 }

@@ -6,9 +6,6 @@ use Prim.Native.Nat.{◌+◌, ◌*◌, ◌-◌, ◌≤◌}
 use Rattle.listing.proofs.put_records.Given as goal
 
 abbrev pub invariant-loop-i : goal.invariant-loop-i
-invariant-loop-i l = (l.i ≤ l.count) × (length l.out ≡ length l.initial.out) × (l.k ≤ l.at + 63 * l.i)
-    × (inserted l.out l.k (record_lines l.records (l.count - l.i) l.i) ≡ inserted l.initial.out l.at (record_lines l.records l.count 0))
-    × (l.k + length (record_lines l.records (l.count - l.i) l.i) ≡ l.at + length (record_lines l.records l.count 0))
-
-abbrev pub decreases-loop-i : goal.decreases-loop-i
-decreases-loop-i l = l.count - l.i
+invariant-loop-i l = (l.text.out.ghost_name ≡ l.initial.text.out.ghost_name) × (length l.text.out.now ≡ length l.initial.text.out.now) × (l.text.len ≤ l.initial.text.len + 63 * l.i)
+    × (inserted l.text.out.now l.text.len (record_lines l.records (l.count - l.i) l.i) ≡ inserted l.initial.text.out.now l.initial.text.len (record_lines l.records l.count 0))
+    × (l.text.len + length (record_lines l.records (l.count - l.i) l.i) ≡ l.initial.text.len + length (record_lines l.records l.count 0))

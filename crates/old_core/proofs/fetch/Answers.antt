@@ -1,16 +1,16 @@
-use Rattle.machine.specs.Ends.{ending_of, settle}
-use Rattle.model.specs.OldCore.{in_image, word_in, fetches}
-use borrow.Author.Tests.{lt-leb, eq-eqb, ne_eqb, le-leb}
+use Rattle.machine.specs.Ends.{answered, ending_of, settle}
+use Rattle.model.specs.OldCore.{fetches, word_of}
+use borrow.Author.Tests.{eq-eqb, ne_eqb}
 use Rattle.old_core.proofs.fetch.Goals as goal
 
-pub returns-then-at-image : goal.returns-then-at-image
-unfolding fetches word_in in_image
-returns-then-at-image c = rw (eq-eqb _ _ c.if-p-eq0.true, ← c.subtract-at.ensures, le-leb _ _ c.if-at-image.true, ← c.read_number.ensures, ← c.read_instruction-i.ensures) c.execute.ensures
+pub returns-in-Some : goal.returns-in-Some
+unfolding fetches word_of
+returns-in-Some c = rw (eq-eqb _ _ c.if-c-ne0.false, ← c.word.ensures, c.in-Some.is, ← c.read_instruction.ensures) c.execute.ensures
 
-pub returns-then-p-eq0 : goal.returns-then-p-eq0
-unfolding fetches word_in in_image settle ending_of
-returns-then-p-eq0 c = rw (eq-eqb _ _ c.if-p-eq0.true, ← c.subtract-at.ensures, lt-leb _ _ c.if-at-image.false) (c.stop.ensures _ _)
+pub returns-in-None : goal.returns-in-None
+unfolding fetches word_of answered settle ending_of
+returns-in-None c = rw (eq-eqb _ _ c.if-c-ne0.false, ← c.word.ensures, c.in-None.is)
 
-pub returns : goal.returns
-unfolding settle ending_of
-returns c = rw (ne_eqb _ _ c.if-p-eq0.false) (c.stop-2.ensures _ _)
+pub returns-then-c-ne0 : goal.returns-then-c-ne0
+unfolding answered settle ending_of
+returns-then-c-ne0 c = rw (ne_eqb _ _ c.if-c-ne0.true)

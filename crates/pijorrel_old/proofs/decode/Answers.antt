@@ -5,14 +5,4 @@ use Rattle.pijorrel_old.proofs.decode.Goals as goal
 
 pub returns : goal.returns
 unfolding old_in machine_in zeroed
-returns c = λ a. rw (
-  c.end_from-e.ensures,
-  c.read_number-4.ensures,
-  c.read_number-3.ensures,
-  c.read_number-a.ensures,
-  c.read_number-2.ensures,
-  c.read_number.ensures,
-  c.read_number-nzvc.ensures,
-  c.file_in.ensures,
-  in_zeroed,
-)
+returns c = λ a. rw (c.end_in.ensures, c.read_number-3.ensures, c.read_number-2.ensures, c.read_number.ensures, c.flags_in.ensures, c.file_in.ensures, in_zeroed)

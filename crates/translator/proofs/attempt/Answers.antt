@@ -1,47 +1,37 @@
 use Rattle.model.specs.Translation.{place_room}
 use Rattle.places.proofs.Chains.{index_none}
-use Rattle.walks.proofs.Walking.{ready_places, ready_tabled}
-use Rattle.translator.proofs.Checking.{good_count, tr_length, tr_base, tr_count, tr_entry, tr_walk}
-use Rattle.translator.proofs.Handed.{ends_places, refused_as, ends_forbidden, ends_full}
-use Rattle.translator.specs.Handing.{places_counted, records_counted}
+use Rattle.std.proofs.lemmas.Result.{err_from_is_err_and}
+use Rattle.translator.proofs.Checking.{tr_image, tr_entries, tr_walk}
+use Rattle.translator.proofs.Handed.{refused_as, ends_refused}
+use Rattle.walks.specs.Walk.{seen}
+use borrow.Author.Rules.{rules}
 use native.Mathlib.Omega.{arith}
-use mathlib.Core.Path.{refl, ◌∙◌}
+use mathlib.Core.Path.{refl, sym, ◌∙◌}
 use Rattle.translator.proofs.attempt.Goals as goal
 
-pub returns-then-bad_length : goal.returns-then-bad_length
-unfolding places_counted records_counted
-returns-then-bad_length c = refused_as _ _ _ _ refl refl _ refl refl ∙ tr_length _ _ _ _ _ c.bad_length.ensures c.if-bad_length.true
+pub returns-in_err-check_image : goal.returns-in_err-check_image
+returns-in_err-check_image c = let p = err_from_is_err_and c.from_residual.result c.from_residual.ensures.1 in
+    rw (p.1, p.2) (refused_as _ _ _ _ refl refl _ ∙ tr_image _ _ _ _ _ _ (sym c.in_err-check_image.was ∙ c.check_image.ensures))
 
-pub returns-then-base-ne0 : goal.returns-then-base-ne0
-unfolding places_counted records_counted
-returns-then-base-ne0 c = refused_as _ _ _ _ refl refl _ refl refl ∙ tr_base _ _ _ _ _ c.bad_length.ensures c.if-bad_length.false c.if-base-ne0.true
+pub returns-in_err-check_entries : goal.returns-in_err-check_entries
+returns-in_err-check_entries c = let p = err_from_is_err_and c.from_residual-in_err-check_entries.result c.from_residual-in_err-check_entries.ensures.1 in
+    rw (p.1, p.2) (refused_as _ _ _ _ refl refl _ ∙ tr_entries _ _ _ _ _ (sym c.in_ok-check_image.was ∙ c.check_image.ensures) _ (sym c.in_err-check_entries.was ∙ c.check_entries.ensures))
 
-pub returns-then-bad_count : goal.returns-then-bad_count
-unfolding places_counted records_counted
-returns-then-bad_count c = refused_as _ _ _ _ refl refl _ refl refl ∙ tr_count _ _ _ _ _ c.bad_length.ensures c.if-bad_length.false c.if-base-ne0.false c.bad_count.ensures c.if-bad_count.true
-
-pub bad_position-bad-requires : goal.bad_position-bad-requires
-bad_position-bad-requires c = (omega arith, good_count _ c.bad_count.ensures c.if-bad_count.false)
-
-pub returns-then-bad-ne0 : goal.returns-then-bad-ne0
-unfolding places_counted records_counted
-returns-then-bad-ne0 c = refused_as _ _ _ _ refl refl _ refl refl ∙ tr_entry _ _ _ _ _ c.bad_length.ensures c.if-bad_length.false c.if-base-ne0.false c.bad_count.ensures c.if-bad_count.false c.bad_position-bad.ensures c.if-bad-ne0.true
-
-pub find_places-w-requires : goal.find_places-w-requires
+pub invariant_of-table : goal.invariant_of-table
 unfolding place_room
-find_places-w-requires c = let r = c.place_room-room.ensures in (omega arith, record { within = omega arith; fits = omega (arith, r); few = omega (arith, r); index = index_none _ })
+invariant_of-table c = let r = c.place_room-room.ensures in
+    let i = c.new-index.ensures in
+    record { ready = rw (i.count, i.heads, i.links) (record { within = omega arith; fits = omega (arith, r); few = omega (arith, r); index = index_none _ }) }
 
-pub finish-requires : goal.finish-requires
-finish-requires c = ready_tabled (ready_places c.in-Places.is c.find_places-w.ensures.ready)
+pub returns-in_err-find_places : goal.returns-in_err-find_places
+returns-in_err-find_places c = let p = err_from_is_err_and c.from_residual-in_err-find_places.result c.from_residual-in_err-find_places.ensures.1 in
+    rw (p.1, p.2) (ends_refused _ _ _ _ (omega arith) refl _ _ _ _
+    ∙ tr_walk _ _ _ _ _ (sym c.in_ok-check_image.was ∙ c.check_image.ensures) (sym c.in_ok-check_entries.was ∙ c.check_entries.ensures) c.place_room-room.ensures c.in_err-find_places.ensures.reads)
 
-pub returns-in-Places : goal.returns-in-Places
-returns-in-Places c = c.finish.ensures ∙ ends_places _ _ _ _ (omega arith) c.in-Places.is
-    ∙ tr_walk _ _ _ _ _ c.bad_length.ensures c.if-bad_length.false c.if-base-ne0.false c.bad_count.ensures c.if-bad_count.false c.bad_position-bad.ensures _ c.if-bad-ne0.false c.place_room-room.ensures c.find_places-w.ensures.reads
-
-pub returns-in-Forbidden : goal.returns-in-Forbidden
-returns-in-Forbidden c = ends_forbidden _ _ _ _ (omega arith) refl _ _ c.in-Forbidden.is _
-    ∙ tr_walk _ _ _ _ _ c.bad_length.ensures c.if-bad_length.false c.if-base-ne0.false c.bad_count.ensures c.if-bad_count.false c.bad_position-bad.ensures _ c.if-bad-ne0.false c.place_room-room.ensures c.find_places-w.ensures.reads
-
-pub returns-in-NoRoom : goal.returns-in-NoRoom
-returns-in-NoRoom c = ends_full _ _ _ _ (omega arith) refl _ _ c.in-NoRoom.is _
-    ∙ tr_walk _ _ _ _ _ c.bad_length.ensures c.if-bad_length.false c.if-base-ne0.false c.bad_count.ensures c.if-bad_count.false c.bad_position-bad.ensures _ c.if-bad-ne0.false c.place_room-room.ensures c.find_places-w.ensures.reads
+pub returns : goal.returns
+unfolding seen
+returns c =
+    let f = rw c.find_places.ensures.kept.size at c.finish.ensures.handed in
+    let h = f ∙ tr_walk _ _ _ _ _ (sym c.in_ok-check_image.was ∙ c.check_image.ensures) (sym c.in_ok-check_entries.was ∙ c.check_entries.ensures) c.place_room-room.ensures c.in_ok-find_places.ensures.reads in
+    let n = c.finish.ensures.kept.bytes ∙ c.find_places.ensures.kept.bytes in
+    search (rules, h, n)

@@ -4,4 +4,4 @@ use Rattle.answer_cases.proofs.listed.check.Goals as goal
 
 pub returns : goal.returns
 unfolding listed_found
-returns c = listed_found_lem _ _ _ _ c.one.ensures c.shows.ensures c.list-n.ensures c.part.ensures c.part-known.ensures c.padded.ensures c.padded-2.ensures c.number.ensures c.number-size.ensures c.number-extent.ensures
+returns c = listed_found_lem _ _ _ _ c.one.ensures c.shows.ensures c.list-n.ensures c.part.ensures c.part-known.ensures c.padded.ensures c.padded-2.ensures c.tag.ensures c.number-size.ensures c.number-extent.ensures

@@ -5,13 +5,18 @@ use Rattle.groups.specs.Layout.{needed, first_in}
 use lib.ListN.{length, drop}
 use mathlib.Core.List.{◌++◌}
 use mathlib.Core.Path.{◌≡◌}
-use Prim.Native.Nat.{◌+◌, ◌*◌, ◌-◌, ◌≤◌}
+use Prim.Native.Nat.{◌+◌, ◌*◌}
 use Rattle.groups.proofs.records.put_groups.Given as goal
 
 abbrev pub invariant-loop-i : goal.invariant-loop-i
-invariant-loop-i l = (l.i ≤ l.count) × (length l.records ≡ length l.initial.records) × (l.at + needed (in_full l.image l.base) (drop l.i (places_in l.places l.count)) ≡ l.total)
-    × (numbers_of l.records (3 * l.at) ++ records_numbers (records_from (in_full l.image l.base) (first_in l.places l.count l.total) (drop l.i (places_in l.places l.count)))
-    ≡ records_numbers (records_from (in_full l.image l.base) (first_in l.places l.count l.total) (places_in l.places l.count)))
-
-abbrev pub decreases-loop-i : goal.decreases-loop-i
-decreases-loop-i l = l.count - l.i
+invariant-loop-i l =
+    let lay = in_full l.image.bytes.now l.image.base in
+    let bytes = l.fn.table.places.now in
+    let count = l.fn.table.index.now.count in
+    record {
+      lent : l.records.bytes.ghost_name ≡ l.initial.records.bytes.ghost_name;
+      size : length l.records.bytes.now ≡ length l.initial.records.bytes.now;
+      all : l.records.count + needed lay (drop l.i (places_in bytes count)) ≡ l.total;
+      numbers : numbers_of l.records.bytes.now (3 * l.records.count) ++ records_numbers (records_from lay (first_in bytes count l.total) (drop l.i (places_in bytes count)))
+          ≡ records_numbers (records_from lay (first_in bytes count l.total) (places_in bytes count));
+    }

@@ -1,15 +1,10 @@
-use Rattle.walks.proofs.Walking.{ready_places, known_by, ended_forbidden, ended_full, from_entries, grown_places, grown_forbidden, grown_full}
-use mathlib.Core.Path.{sym, ◌∙◌}
+use Rattle.walks.proofs.Walking.{places_on, places_off}
+use Rattle.std.proofs.lemmas.Result.{err_from_is_err_and}
 use Rattle.walks.proofs.walk.find_places.Goals as goal
 
-pub walk-requires : goal.walk-requires
-walk-requires c = ready_places c.in-Places.is c.start-w.ensures.ready
+pub returns-in_err-start : goal.returns-in_err-start
+returns-in_err-start c = let p = err_from_is_err_and c.from_residual.result c.from_residual.ensures.1 in
+    rw (p.1, p.2) (places_off _ _ _ c.requires _ c.in_err-start.ensures)
 
-pub returns-in-Places : goal.returns-in-Places
-returns-in-Places c = known_by (sym (grown_places _ _ c.in-Places.is) ∙ from_entries _ _ _ _ _ _ c.start-w.ensures.reads) c.walk.ensures
-
-pub returns-in-Forbidden : goal.returns-in-Forbidden
-returns-in-Forbidden c = ended_forbidden _ _ _ (sym (grown_forbidden _ _ c.in-Forbidden.is) ∙ from_entries _ _ _ _ _ _ c.start-w.ensures.reads)
-
-pub returns-in-NoRoom : goal.returns-in-NoRoom
-returns-in-NoRoom c = ended_full _ _ _ (sym (grown_full _ _ c.in-NoRoom.is) ∙ from_entries _ _ _ _ _ _ c.start-w.ensures.reads)
+pub returns : goal.returns
+returns c = places_on _ _ _ c.requires c.in_ok-start.ensures c.walk.ensures

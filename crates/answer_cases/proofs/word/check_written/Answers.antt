@@ -1,6 +1,0 @@
-use Rattle.answer_cases.specs.Words.{written_found}
-use Rattle.answer_cases.proofs.word.check_written.Goals as goal
-
-pub returns : goal.returns
-unfolding written_found
-returns c = rw (c.one.ensures, c.answers.ensures, c.part-2.ensures, c.number.ensures, c.copy.ensures, c.part.ensures)

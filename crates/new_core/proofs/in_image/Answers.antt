@@ -1,6 +1,0 @@
-use Rattle.model.specs.OldCore.{in_image}
-use Rattle.new_core.proofs.in_image.Goals as goal
-
-pub returns : goal.returns
-unfolding in_image
-returns c = rw (← c.subtract.ensures)

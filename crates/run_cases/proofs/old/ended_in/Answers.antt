@@ -1,7 +1,0 @@
-use Rattle.case_files.proofs.Areas.{is_same}
-use Rattle.run_cases.specs.Runs.{ended_in}
-use Rattle.run_cases.proofs.old.ended_in.Goals as goal
-
-pub returns : goal.returns
-unfolding ended_in
-returns c = rw (is_same _ _ _ c.same.ensures, c.number-2.ensures, c.number.ensures)
