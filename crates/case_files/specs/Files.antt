@@ -3,6 +3,7 @@ use Rattle.std.specs.Prelude.{ℕ, ◌+◌, ◌-◌, ◌*◌, ◌/◌, Bool, tru
 use Rattle.numbers.specs.Choice.{pick}
 use Rattle.numbers.specs.Number.{number_at}
 use Rattle.model.specs.StateBytes.{old_size}
+use Rattle.case_files.specs.declared.Positions.{Positions}
 use Rattle.case_files.specs.declared.Found.{Found}
 
 -- the number at a position, or 0 where the bytes end before it does
@@ -47,18 +48,8 @@ pub record Checked : Type 0 where
 abbrev pub checked : Found → List ℕ → Checked
 checked verdict area = record { verdict = verdict; area = area }
 
--- where the parts of a case start, and how many bytes its image (extent) and its data (size) have
-pub record Parts : Type 0 where
-  pub image : ℕ
-  pub extent : ℕ
-  pub before : ℕ
-  pub size : ℕ
-  pub known : ℕ
-  pub after : ℕ
-  pub next : ℕ
-
 -- a case of the old core, or a trail: six numbers, a state, an image, data, so many bytes of answers, data
-unfoldable pub old_parts : List ℕ → ℕ → ℕ → Parts
+unfoldable pub old_parts : List ℕ → ℕ → ℕ → Positions
 old_parts bytes at answers =
     let extent = number_in bytes (at + 4) in
     let size = number_in bytes (at + 16) in

@@ -58,8 +58,30 @@ impl<'a> Case<'a> {
         number(self.bytes, self.at + 4 * i)
     }
 
-    // The parts of a case of the old core, or of a trail: six numbers, a state, an image, data, so many bytes of answers, data.
+    // Where the parts of a case of the old core, or of a trail, start: six numbers, a state, an image, data, so many bytes of answers, data.
     #[tactic(auto, unfolding(crate::specs::Files::old_parts))]
+    pub fn locate(&self, answers: usize) -> Positions
+        requires { answers < 2 ^ 40 }
+        ensures { result ≡ old_parts self.now.bytes.now self.now.at answers }
+    {
+        let extent = self.number(1);
+        let size = self.number(4);
+        let image = self.at + 24 + OLD_STATE;
+        let before = image + padded(extent);
+        let known = before + padded(size);
+        let after = known + answers;
+        Positions {
+            image,
+            extent: extent as usize,
+            before,
+            size: size as usize,
+            known,
+            after,
+            next: after + padded(size),
+        }
+    }
+
+    // These parts.
     pub fn parts(&self, answers: usize) -> Parts<'a>
         requires { answers < 2 ^ 40 }
         ensures state { result.state.now ≡ part_of self.now.bytes.now (self.now.at + 24) old_size }
@@ -69,21 +91,28 @@ impl<'a> Case<'a> {
         ensures after { let p = old_parts self.now.bytes.now self.now.at answers in result.after.now ≡ part_of self.now.bytes.now p.after p.size }
         ensures next { result.next ≡ (old_parts self.now.bytes.now self.now.at answers).next }
     {
-        let extent = self.number(1);
-        let size = self.number(4);
-        let image = self.at + 24 + OLD_STATE;
-        let before = image + padded(extent);
-        let known = before + padded(size);
-        let after = known + answers;
+        let p = self.locate(answers);
         Parts {
             state: part(self.bytes, self.at + 24, OLD_STATE),
-            image: part(self.bytes, image, extent as usize),
-            before: part(self.bytes, before, size as usize),
-            known: part(self.bytes, known, answers),
-            after: part(self.bytes, after, size as usize),
-            next: after + padded(size),
+            image: part(self.bytes, p.image, p.extent),
+            before: part(self.bytes, p.before, p.size),
+            known: part(self.bytes, p.known, answers),
+            after: part(self.bytes, p.after, p.size),
+            next: p.next,
         }
     }
+}
+
+// Where the parts of a case start, and how many bytes its image (extent) and its data (size) have.
+#[derive(Clone, Copy)]
+pub struct Positions {
+    pub image: usize,
+    pub extent: usize,
+    pub before: usize,
+    pub size: usize,
+    pub known: usize,
+    pub after: usize,
+    pub next: usize,
 }
 
 // The parts of a case, each as much of it as the file has, and where the next case starts.

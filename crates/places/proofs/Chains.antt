@@ -17,7 +17,7 @@ use mathlib.Core.List.{List, [], ◌∷◌, ◌++◌}
 use mathlib.Core.Bool.{Bool, true, false, false≢true}
 use mathlib.Core.Path.{◌≡◌, refl, sym, ap, ◌∙◌}
 use Prim.Native.Nat.{ℕ, zero, suc, ◌+◌, ◌*◌, ◌-◌, ◌≤◌, ◌<◌}
-use Rattle.places.specs.Table.{Narrow, place_in, ShowsIn, SameRow, places_in, put_place, number_of, found}
+use Rattle.places.specs.Table.{Narrow, place_in, ShowsIn, SameRow, places_in, put_row, number_of, found}
 use Rattle.places.specs.Index.{hash, last, Indexed, Ready}
 use Rattle.places.proofs.Rows.{differ, place_same, shows_same, place_put, shows_put, place_below, row_below, length_row, length_places}
 
@@ -248,7 +248,7 @@ index_same t m heads links n s x =
 module _ (t : List ℕ) (n : ℕ) (x : Place) (heads links : List ℕ) (old : Indexed t n heads links) (room : n < 8192) (h : 16 * n + 16 ≤ length t)
     (b : Narrow x) (new : member (places_in t n) x ≡ false) where
   abbrev t+ : List ℕ
-  t+ = put_place t n x
+  t+ = put_row t n x
 
   there : place_in t+ n ≡ x
   there = place_put t n x h b
@@ -295,7 +295,7 @@ module _ (t : List ℕ) (n : ℕ) (x : Place) (heads links : List ℕ) (old : In
 -- a table ready for more, with one place more
 pub ready_put : {room : ℕ} {t : List ℕ} {n : ℕ} {heads links : List ℕ} (x : Place) → Ready room t n heads links → n < room → Narrow x
     → member (places_in t n) x ≡ false
-    → Ready room (put_place t n x) (n + 1) (set heads (hash x) (n + 1)) (set links n (get_or heads (hash x) 0))
+    → Ready room (put_row t n x) (n + 1) (set heads (hash x) (n + 1)) (set links n (get_or heads (hash x) 0))
 ready_put {room} {t} {n} {heads} {links} x r m b new =
     record {
       within = omega arith;

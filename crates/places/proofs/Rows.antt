@@ -18,10 +18,10 @@ use mathlib.Core.List.{List, [], ◌∷◌, ◌++◌}
 use mathlib.Core.Bool.{Bool, true, false}
 use mathlib.Core.Path.{◌≡◌, refl, sym, ap, ◌∙◌}
 use Prim.Native.Nat.{ℕ, zero, suc, ◌+◌, ◌*◌, ◌≤◌, ◌<◌}
-use Rattle.places.specs.Table.{place_of, Shows, Narrow, place_in, ShowsIn, SameRow, places_in, put_place}
+use Rattle.places.specs.Table.{place_of, Shows, Narrow, place_in, ShowsIn, SameRow, places_in, put_place, put_row}
 
-pub length_row : (l : List ℕ) (i : ℕ) (x : Place) → length (put_place l i x) ≡ length l
-unfolding put_place
+pub length_row : (l : List ℕ) (i : ℕ) (x : Place) → length (put_row l i x) ≡ length l
+unfolding put_row put_place
 length_row l i x = simp length_put
 
 pub length_places : (l : List ℕ) (n : ℕ) → length (places_in l n) ≡ n
@@ -117,46 +117,46 @@ module _ (l : List ℕ) (i : ℕ) (x : Place) where
   t2 = put_number t1 (16 * i + 4) (next_of x)
 
   -- what stands before the row stays
-  number_below : (m : ℕ) → m + 4 ≤ 16 * i → number_at (put_place l i x) m ≡ number_at l m
-  unfolding put_place
+  number_below : (m : ℕ) → m + 4 ≤ 16 * i → number_at (put_row l i x) m ≡ number_at l m
+  unfolding put_row put_place
   number_below m h =
       number_before t2 (16 * i + 8) (kind_of x) m (omega arith) ∙ number_before t1 (16 * i + 4) (next_of x) m (omega arith)
       ∙ number_before l (16 * i) (place_at x) m (omega arith)
 
-  pub row_below : (j : ℕ) → j < i → SameRow (put_place l i x) l j
+  pub row_below : (j : ℕ) → j < i → SameRow (put_row l i x) l j
   row_below j h =
       (number_below (16 * j) (omega arith), number_below (16 * j + 4) (omega arith), number_below (16 * j + 8) (omega arith))
 
-  pub place_below : (j : ℕ) → j < i → place_in (put_place l i x) j ≡ place_in l j
-  place_below j h = place_same (put_place l i x) l j (row_below j h)
+  pub place_below : (j : ℕ) → j < i → place_in (put_row l i x) j ≡ place_in l j
+  place_below j h = place_same (put_row l i x) l j (row_below j h)
 
   module _ (h : 16 * i + 16 ≤ length l) (b : Narrow x) where
-    put_address : number_at (put_place l i x) (16 * i) ≡ place_at x
-    unfolding put_place
+    put_address : number_at (put_row l i x) (16 * i) ≡ place_at x
+    unfolding put_row put_place
     put_address =
         number_before t2 (16 * i + 8) (kind_of x) (16 * i) (omega arith) ∙ number_before t1 (16 * i + 4) (next_of x) (16 * i) (omega arith)
         ∙ number_put l (16 * i) (place_at x) (omega arith) b.address
 
-    put_next : number_at (put_place l i x) (16 * i + 4) ≡ next_of x
-    unfolding put_place
+    put_next : number_at (put_row l i x) (16 * i + 4) ≡ next_of x
+    unfolding put_row put_place
     put_next =
         number_before t2 (16 * i + 8) (kind_of x) (16 * i + 4) (omega arith)
         ∙ number_put t1 (16 * i + 4) (next_of x) (simp length_put (omega arith)) b.next
 
-    put_kind : number_at (put_place l i x) (16 * i + 8) ≡ kind_of x
-    unfolding put_place
+    put_kind : number_at (put_row l i x) (16 * i + 8) ≡ kind_of x
+    unfolding put_row put_place
     put_kind = number_put t2 (16 * i + 8) (kind_of x) (simp length_put (omega arith)) (omega (arith, kind_le x))
 
-    pub place_put : place_in (put_place l i x) i ≡ x
+    pub place_put : place_in (put_row l i x) i ≡ x
     unfolding place_in
     place_put = rw (put_address, put_next, put_kind) (place_numbers x)
 
-    pub shows_put : ShowsIn (put_place l i x) i
+    pub shows_put : ShowsIn (put_row l i x) i
     shows_put = rw (put_address, put_next, put_kind) (shows_numbers x)
 
     -- a table with one place more
-    pub places_put : places_in (put_place l i x) (i + 1) ≡ places_in l i ++ (x ∷ [])
+    pub places_put : places_in (put_row l i x) (i + 1) ≡ places_in l i ++ (x ∷ [])
     unfolding places_in up_to
     places_put =
-        let e : places_in (put_place l i x) i ≡ places_in l i = places_same (put_place l i x) l i place_below in
+        let e : places_in (put_row l i x) i ≡ places_in l i = places_same (put_row l i x) l i place_below in
         rw (add-one i, place_put, e)

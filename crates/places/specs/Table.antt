@@ -37,9 +37,13 @@ SameRow l m i =
 unfoldable pub places_in : List ℕ → ℕ → List Place
 places_in bytes n = up_to (place_in bytes) n
 
+-- the table with three numbers in row i
+unfoldable pub put_place : List ℕ → ℕ → ℕ → ℕ → ℕ → List ℕ
+put_place bytes i p n kind = put_number (put_number (put_number bytes (16 * i) p) (16 * i + 4) n) (16 * i + 8) kind
+
 -- the table with row i a place
-unfoldable pub put_place : List ℕ → ℕ → Place → List ℕ
-put_place bytes i x = put_number (put_number (put_number bytes (16 * i) (place_at x)) (16 * i + 4) (next_of x)) (16 * i + 8) (kind_of x)
+unfoldable pub put_row : List ℕ → ℕ → Place → List ℕ
+put_row bytes i x = put_place bytes i (place_at x) (next_of x) (kind_of x)
 
 -- the lowest number of a place in a list, and the list's length where it is not there
 unfoldable pub number_of : Place → List Place → ℕ

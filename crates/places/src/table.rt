@@ -2,7 +2,7 @@
 ghost use Rattle.places.specs.Index.{Ready};
 ghost use Rattle.std.specs.Prelude.{◌≡◌, ◌+◌, ◌*◌, ◌≤◌, length, eqb};
 ghost use Rattle.numbers.specs.Number.{number_at};
-ghost use Rattle.places.specs.Table.{Narrow, ShowsIn, place_in, put_place};
+ghost use Rattle.places.specs.Table.{Narrow, ShowsIn, place_in, put_place, put_row};
 ghost use Rattle.model.specs.Places.{place_at, next_of, kind_of, same_place};
 
 use crate::index::Index;
@@ -79,17 +79,27 @@ pub fn is_place(places: &[u8], i: usize, x: Place) -> bool
         && numbers::read_number(places, 16 * i + 8) == kind_of(x)
 }
 
-// Makes row i a place. Its first record stays as it is.
+// Puts the three numbers of a place in row i. Its first record stays as it is.
 #[inline(always)]
 #[tactic(auto, unfolding(crate::specs::Table::put_place))]
-pub fn write_place(places: &mut [u8], i: usize, x: Place)
+pub fn write_place(places: &mut [u8], i: usize, p: u32, n: u32, kind: u32)
     requires { 16 * i + 16 ≤ length places.old }
-    ensures put { places.new ≡ put_place places.old i x }
+    ensures { places.new ≡ put_place places.old i p n kind }
+{
+    numbers::write_number(places, 16 * i, p);
+    numbers::write_number(places, 16 * i + 4, n);
+    numbers::write_number(places, 16 * i + 8, kind);
+}
+
+// Makes row i a place.
+#[inline(always)]
+#[tactic(auto, unfolding(crate::specs::Table::put_row))]
+fn write_row(places: &mut [u8], i: usize, x: Place)
+    requires { 16 * i + 16 ≤ length places.old }
+    ensures put { places.new ≡ put_row places.old i x }
     ensures narrow { Narrow x }
 {
-    numbers::write_number(places, 16 * i, address_of(x));
-    numbers::write_number(places, 16 * i + 4, next_of(x));
-    numbers::write_number(places, 16 * i + 8, kind_of(x));
+    write_place(places, i, address_of(x), next_of(x), kind_of(x));
 }
 
 // A place table with room for so many places.
@@ -172,7 +182,7 @@ impl Table<'_> {
         ensures kept { Kept self.old self.new }
     {
         let i = self.len();
-        write_place(self.places, i, x);
+        write_row(self.places, i, x);
         self.index.enter(x);
     }
 }

@@ -6,8 +6,8 @@ use Rattle.places.proofs.table.Table.push.Goals as goal
 
 pub invariant_of-self : goal.invariant_of-self
 unfolding listed
-invariant_of-self c = record { ready = rw (c.write_place.ensures.put, c.len-i.ensures, c.enter.ensures.count, c.enter.ensures.heads, c.enter.ensures.links) (ready_put _ c.args.self.now.ready c.requires.0 c.write_place.ensures.narrow c.requires.1) }
+invariant_of-self c = record { ready = rw (c.write_row.ensures.put, c.len-i.ensures, c.enter.ensures.count, c.enter.ensures.heads, c.enter.ensures.links) (ready_put _ c.args.self.now.ready c.requires.0 c.write_row.ensures.narrow c.requires.1) }
 
 pub returns-clause-places : goal.returns-clause-places
 unfolding listed
-returns-clause-places c = rw (c.write_place.ensures.put, c.len-i.ensures, c.enter.ensures.count) (places_put _ _ _ (omega arith) c.write_place.ensures.narrow)
+returns-clause-places c = rw (c.write_row.ensures.put, c.len-i.ensures, c.enter.ensures.count) (places_put _ _ _ (omega arith) c.write_row.ensures.narrow)
