@@ -38,7 +38,7 @@ first_in bytes count all x =
 
 -- the same, by the table and the number of all records together
 abbrev pub first_of : Firsts → Place → ℕ
-first_of f = first_in f.table.now.places.now f.table.now.index.now.count f.past.0
+first_of f = first_in f.rows.places.now f.rows.count f.past.0
 
 -- a table with its first records set: the places as they were, all numbers, and the records in all
 pub record Laid (lay : Grouping) (ps : List Place) (count : ℕ) (bytes : List ℕ) (r : ℕ) : Type 0 where

@@ -6,14 +6,13 @@ ghost use Rattle.model.specs.declared.Place.{Place};
 ghost use Rattle.model.specs.Places.{plain, which_of};
 ghost use Rattle.model.specs.Records.{in_full, bicc_group, group_of, held_group_of, group, record_numbers, records_numbers, records_from};
 ghost use Rattle.places.specs.Control.{transferred};
-ghost use Rattle.places.specs.Table.{place_in};
-ghost use Rattle.places.specs.Lent.{listed};
+ghost use Rattle.places.specs.Table.{place_in, places_in};
 ghost use Rattle.groups.specs.Layout.{recorded, first_in, first_of, needed, Pushed, Puts, HasRoom};
 
 use machine::{SourcePc, TargetPc};
 use model::{Image, Place, target};
 use places::control::untaken;
-use places::table::Table;
+use places::table::{Rows, address, is_held, next};
 use words::Flow;
 
 // A record, by its kinds from 1 to 7, of which the last has an end for an address outside and one for an illegal word.
@@ -32,7 +31,7 @@ pub enum Record {
 // Where the first record of each place stands: as the table has it, and past all records where the table has it not.
 #[derive(Clone, Copy)]
 struct Firsts<'a> {
-    table: &'a Table<'a>,
+    rows: Rows<'a>,
     past: TargetPc,
 }
 
@@ -41,8 +40,8 @@ impl Firsts<'_> {
     fn of(self, x: Place) -> TargetPc
         ensures { result.0 ≡ first_of self.entry x }
     {
-        match self.table.find(x) {
-            Some(i) => TargetPc(self.table.first_record(i)),
+        match self.rows.find(x) {
+            Some(i) => TargetPc(self.rows.first_record(i)),
             None => self.past,
         }
     }
@@ -163,35 +162,35 @@ impl Records<'_> {
     // Puts the group of place i.
     #[inline(always)]
     fn put_group(&mut self, image: Image<'_>, firsts: Firsts<'_>, i: usize)
-        requires { (i < firsts.table.now.index.now.count) × HasRoom (group image.bytes.now image.base (place_in firsts.table.now.places.now i)) self.old }
-        ensures { Puts (first_of firsts.entry) (group image.entry.bytes.now image.entry.base (place_in firsts.entry.table.now.places.now i)) self.old self.new }
+        requires { (i < firsts.rows.count) × HasRoom (group image.bytes.now image.base (place_in firsts.rows.places.now i)) self.old }
+        ensures { Puts (first_of firsts.entry) (group image.entry.bytes.now image.entry.base (place_in firsts.entry.rows.places.now i)) self.old self.new }
     {
-        let table = firsts.table;
-        let p = table.address(i);
+        let places = firsts.rows.places;
+        let p = address(places, i);
         let Some(word) = image.word(p) else {
             return self.push(Record::Outside(p));
         };
         let flow = flows::read_flow(word);
-        if table.is_held(i) {
+        if is_held(places, i) {
             self.put_held(flow, word, p);
         } else {
-            self.put_word(firsts, flow, word, p, table.next(i));
+            self.put_word(firsts, flow, word, p, next(places, i));
         }
     }
 }
 
 // Puts the groups of all places, in place order.
 #[inline(always)]
-pub fn put_groups(image: Image<'_>, table: &Table<'_>, total: usize, bytes: &mut [u8])
-    requires { (total ≡ needed (in_full image.bytes.now image.base) (listed table.now)) × (12 * total ≤ length bytes.old) }
-    ensures { numbers_of bytes.new (3 * total) ≡ records_numbers (records_from (in_full image.entry.bytes.now image.entry.base) (first_in table.now.places.now table.now.index.now.count total) (listed table.now)) }
+pub fn put_groups(image: Image<'_>, rows: Rows<'_>, total: usize, bytes: &mut [u8])
+    requires { (total ≡ needed (in_full image.bytes.now image.base) (places_in rows.places.now rows.count)) × (12 * total ≤ length bytes.old) }
+    ensures { numbers_of bytes.new (3 * total) ≡ records_numbers (records_from (in_full image.entry.bytes.now image.entry.base) (first_in rows.entry.places.now rows.entry.count total) (places_in rows.entry.places.now rows.entry.count)) }
 {
     let firsts = Firsts {
-        table,
+        rows,
         past: TargetPc(total as u32),
     };
     let mut records = Records { bytes, count: 0 };
-    for i in 0..table.len() {
+    for i in 0..rows.count {
         records.put_group(image, firsts, i);
     }
 }

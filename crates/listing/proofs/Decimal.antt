@@ -23,11 +23,11 @@ enough (suc n) (suc m) v h k = go (λ l. enough n m (v / 10) (omega arith) (omeg
     go r true e = refl
     go r false e = rw (r (ltb-false v 10 e))
 
-decimal_one : (v : ℕ) → v < 10 → decimal v ≡ (48 + v) ∷ []
+pub decimal_one : (v : ℕ) → v < 10 → decimal v ≡ (48 + v) ∷ []
 unfolding decimal decimal_by
 decimal_one v h = rw (lt-ltb v 10 h)
 
-decimal_more : (v : ℕ) → 10 ≤ v → decimal v ≡ decimal (v / 10) ++ ((48 + v % 10) ∷ [])
+pub decimal_more : (v : ℕ) → 10 ≤ v → decimal v ≡ decimal (v / 10) ++ ((48 + v % 10) ∷ [])
 unfolding decimal decimal_by
 decimal_more v h = rw (le-ltb v 10 h) (rw (enough v (suc (v / 10)) (v / 10) (omega arith) (omega arith)))
 

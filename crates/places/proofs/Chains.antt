@@ -18,8 +18,8 @@ use mathlib.Core.Bool.{Bool, true, false, false≢true}
 use mathlib.Core.Path.{◌≡◌, refl, sym, ap, ◌∙◌}
 use Prim.Native.Nat.{ℕ, zero, suc, ◌+◌, ◌*◌, ◌-◌, ◌≤◌, ◌<◌}
 use Rattle.places.specs.Table.{Narrow, place_in, ShowsIn, SameRow, places_in, put_row, number_of, found}
-use Rattle.places.specs.Index.{hash, last, Indexed, Ready}
-use Rattle.places.proofs.Rows.{differ, place_same, shows_same, place_put, shows_put, place_below, row_below, length_row, length_places}
+use Rattle.places.specs.Index.{hash, last, Indexed, Tabled, Ready}
+use Rattle.places.proofs.Rows.{differ, place_same, shows_same, place_placed, shows_placed, place_below_placed, row_below_placed, length_placed, length_places}
 
 other_hash : (x y : Place) → (hash x ≡ hash y → ⊥) → same_place x y ≡ false
 other_hash x y n = differ x y (λ e. n (ap hash e))
@@ -251,10 +251,10 @@ module _ (t : List ℕ) (n : ℕ) (x : Place) (heads links : List ℕ) (old : In
   t+ = put_row t n x
 
   there : place_in t+ n ≡ x
-  there = place_put t n x h b
+  there = place_placed t n x h b
 
   kept : (i m : ℕ) → i ≤ n → last t+ i m ≡ last t i m
-  kept i m le = last_same t+ t i m (λ j l. place_below t n x j (omega arith))
+  kept i m le = last_same t+ t i m (λ j l. place_below_placed t n x j (omega arith))
 
   heads_at : (m : ℕ) → m < 8192 → (c : Bool) → eqb (hash x) m ≡ c → get_or (set heads (hash x) (n + 1)) m 0 ≡ pick c (suc n) (last t n m)
   heads_at m l true e =
@@ -267,15 +267,15 @@ module _ (t : List ℕ) (n : ℕ) (x : Place) (heads links : List ℕ) (old : In
       ∙ sym (kept n (hash x) (omega arith)))
   links_at i (inr m) =
       get_or-set_other links n i (get_or heads (hash x) 0) 0 (omega arith) ∙ old.link i m
-      ∙ rw (place_below t n x i m) (sym (kept i (hash (place_in t i)) (omega arith)))
+      ∙ rw (place_below_placed t n x i m) (sym (kept i (hash (place_in t i)) (omega arith)))
 
   shows_at : (i : ℕ) → (i ≡ n) ⊎ (i < n) → ShowsIn t+ i
-  shows_at i (inl e) = rw e (shows_put t n x h b)
-  shows_at i (inr m) = shows_same t+ t i (row_below t n x i m) (old.shows i m)
+  shows_at i (inl e) = rw e (shows_placed t n x h b)
+  shows_at i (inr m) = shows_same t+ t i (row_below_placed t n x i m) (old.shows i m)
 
   apart_at : (i j : ℕ) → i < j → (j ≡ n) ⊎ (j < n) → same_place (place_in t+ i) (place_in t+ j) ≡ false
-  apart_at i j l (inl e) = rw (e, there, place_below t n x i (omega arith)) (none_there t n x new i (omega arith))
-  apart_at i j l (inr m) = rw (place_below t n x i (omega arith), place_below t n x j m) (old.apart i j l m)
+  apart_at i j l (inl e) = rw (e, there, place_below_placed t n x i (omega arith)) (none_there t n x new i (omega arith))
+  apart_at i j l (inr m) = rw (place_below_placed t n x i (omega arith), place_below_placed t n x j m) (old.apart i j l m)
 
   at_most : (i : ℕ) → i < n + 1 → (i ≡ n) ⊎ (i < n)
   at_most i l = eq-or-lt_of_le (le_of_suc-le-suc (rw add-one at l))
@@ -292,6 +292,10 @@ module _ (t : List ℕ) (n : ℕ) (x : Place) (heads links : List ℕ) (old : In
         apart = λ i j l m. apart_at i j l (at_most j m);
       }
 
+-- a table ready for more, as it is read
+pub ready_tabled : {room n : ℕ} {t h l : List ℕ} → Ready room t n h l → Tabled t n h l
+ready_tabled r = record { fits = omega (arith, r.within, r.fits); few = omega (arith, r.within, r.few); index = r.index }
+
 -- a table ready for more, with one place more
 pub ready_put : {room : ℕ} {t : List ℕ} {n : ℕ} {heads links : List ℕ} (x : Place) → Ready room t n heads links → n < room → Narrow x
     → member (places_in t n) x ≡ false
@@ -299,7 +303,7 @@ pub ready_put : {room : ℕ} {t : List ℕ} {n : ℕ} {heads links : List ℕ} (
 ready_put {room} {t} {n} {heads} {links} x r m b new =
     record {
       within = omega arith;
-      fits = rw (length_row t n x) r.fits;
+      fits = rw (length_placed t n x) r.fits;
       few = r.few;
       index = index_put t n x heads links r.index (omega arith) (omega arith) b new;
     }

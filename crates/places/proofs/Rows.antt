@@ -17,12 +17,12 @@ use native.Mathlib.Omega.{arith}
 use mathlib.Core.List.{List, [], ◌∷◌, ◌++◌}
 use mathlib.Core.Bool.{Bool, true, false}
 use mathlib.Core.Path.{◌≡◌, refl, sym, ap, ◌∙◌}
-use Prim.Native.Nat.{ℕ, zero, suc, ◌+◌, ◌*◌, ◌≤◌, ◌<◌}
+use Prim.Native.Nat.{ℕ, zero, suc, ◌+◌, ◌*◌, ◌^◌, ◌≤◌, ◌<◌}
 use Rattle.places.specs.Table.{place_of, Shows, Narrow, place_in, ShowsIn, SameRow, places_in, put_place, put_row}
 
-pub length_row : (l : List ℕ) (i : ℕ) (x : Place) → length (put_row l i x) ≡ length l
-unfolding put_row put_place
-length_row l i x = simp length_put
+pub length_row : (l : List ℕ) (i p n k : ℕ) → length (put_place l i p n k) ≡ length l
+unfolding put_place
+length_row l i p n k = simp length_put
 
 pub length_places : (l : List ℕ) (n : ℕ) → length (places_in l n) ≡ n
 unfolding places_in
@@ -48,12 +48,12 @@ unfolding place_of place_at
 at_place p n k = either (λ (x : Place). place_at x ≡ p) (eqb k 2) (Held p) (Pair p n) refl refl
 
 -- a place is told by its numbers
-place_numbers : (x : Place) → place_of (place_at x) (next_of x) (kind_of x) ≡ x
+pub place_numbers : (x : Place) → place_of (place_at x) (next_of x) (kind_of x) ≡ x
 unfolding place_of place_at next_of kind_of
 place_numbers (Pair p n) = either (λ (k : ℕ). pick (eqb k 2) (Held p) (Pair p n) ≡ Pair p n) (eqb n (plus p 4)) 0 1 refl refl
 place_numbers (Held p) = refl
 
-shows_numbers : (x : Place) → Shows (place_at x) (next_of x) (kind_of x)
+pub shows_numbers : (x : Place) → Shows (place_at x) (next_of x) (kind_of x)
 shows_numbers x = record { its_next = ap next_of (place_numbers x); its_kind = ap kind_of (place_numbers x) }
 
 kind_le : (x : Place) → kind_of x ≤ 2
@@ -109,54 +109,88 @@ first_kept l i v j = go (leb j i) refl
         )
 
 -- a row that was put
-module _ (l : List ℕ) (i : ℕ) (x : Place) where
+module _ (l : List ℕ) (i p n k : ℕ) where
   abbrev t1 : List ℕ
-  t1 = put_number l (16 * i) (place_at x)
+  t1 = put_number l (16 * i) p
 
   abbrev t2 : List ℕ
-  t2 = put_number t1 (16 * i + 4) (next_of x)
+  t2 = put_number t1 (16 * i + 4) n
 
   -- what stands before the row stays
-  number_below : (m : ℕ) → m + 4 ≤ 16 * i → number_at (put_row l i x) m ≡ number_at l m
-  unfolding put_row put_place
+  number_below : (m : ℕ) → m + 4 ≤ 16 * i → number_at (put_place l i p n k) m ≡ number_at l m
+  unfolding put_place
   number_below m h =
-      number_before t2 (16 * i + 8) (kind_of x) m (omega arith) ∙ number_before t1 (16 * i + 4) (next_of x) m (omega arith)
-      ∙ number_before l (16 * i) (place_at x) m (omega arith)
+      number_before t2 (16 * i + 8) k m (omega arith) ∙ number_before t1 (16 * i + 4) n m (omega arith)
+      ∙ number_before l (16 * i) p m (omega arith)
 
-  pub row_below : (j : ℕ) → j < i → SameRow (put_row l i x) l j
+  pub row_below : (j : ℕ) → j < i → SameRow (put_place l i p n k) l j
   row_below j h =
       (number_below (16 * j) (omega arith), number_below (16 * j + 4) (omega arith), number_below (16 * j + 8) (omega arith))
 
-  pub place_below : (j : ℕ) → j < i → place_in (put_row l i x) j ≡ place_in l j
-  place_below j h = place_same (put_row l i x) l j (row_below j h)
+  pub place_below : (j : ℕ) → j < i → place_in (put_place l i p n k) j ≡ place_in l j
+  place_below j h = place_same (put_place l i p n k) l j (row_below j h)
 
-  module _ (h : 16 * i + 16 ≤ length l) (b : Narrow x) where
-    put_address : number_at (put_row l i x) (16 * i) ≡ place_at x
-    unfolding put_row put_place
+  module _ (h : 16 * i + 16 ≤ length l) (bp : p < 2 ^ 32) (bn : n < 2 ^ 32) (bk : k < 2 ^ 32) where
+    put_address : number_at (put_place l i p n k) (16 * i) ≡ p
+    unfolding put_place
     put_address =
-        number_before t2 (16 * i + 8) (kind_of x) (16 * i) (omega arith) ∙ number_before t1 (16 * i + 4) (next_of x) (16 * i) (omega arith)
-        ∙ number_put l (16 * i) (place_at x) (omega arith) b.address
+        number_before t2 (16 * i + 8) k (16 * i) (omega arith) ∙ number_before t1 (16 * i + 4) n (16 * i) (omega arith)
+        ∙ number_put l (16 * i) p (omega arith) bp
 
-    put_next : number_at (put_row l i x) (16 * i + 4) ≡ next_of x
-    unfolding put_row put_place
+    put_next : number_at (put_place l i p n k) (16 * i + 4) ≡ n
+    unfolding put_place
     put_next =
-        number_before t2 (16 * i + 8) (kind_of x) (16 * i + 4) (omega arith)
-        ∙ number_put t1 (16 * i + 4) (next_of x) (simp length_put (omega arith)) b.next
+        number_before t2 (16 * i + 8) k (16 * i + 4) (omega arith) ∙ number_put t1 (16 * i + 4) n (simp length_put (omega arith)) bn
 
-    put_kind : number_at (put_row l i x) (16 * i + 8) ≡ kind_of x
-    unfolding put_row put_place
-    put_kind = number_put t2 (16 * i + 8) (kind_of x) (simp length_put (omega arith)) (omega (arith, kind_le x))
+    put_kind : number_at (put_place l i p n k) (16 * i + 8) ≡ k
+    unfolding put_place
+    put_kind = number_put t2 (16 * i + 8) k (simp length_put (omega arith)) bk
 
-    pub place_put : place_in (put_row l i x) i ≡ x
+    pub place_put : place_in (put_place l i p n k) i ≡ place_of p n k
     unfolding place_in
-    place_put = rw (put_address, put_next, put_kind) (place_numbers x)
+    place_put = rw (put_address, put_next, put_kind)
 
-    pub shows_put : ShowsIn (put_row l i x) i
-    shows_put = rw (put_address, put_next, put_kind) (shows_numbers x)
+    pub shows_put : Shows p n k → ShowsIn (put_place l i p n k) i
+    shows_put s = rw (put_address, put_next, put_kind) s
 
     -- a table with one place more
-    pub places_put : places_in (put_row l i x) (i + 1) ≡ places_in l i ++ (x ∷ [])
+    pub places_put : places_in (put_place l i p n k) (i + 1) ≡ places_in l i ++ (place_of p n k ∷ [])
     unfolding places_in up_to
     places_put =
-        let e : places_in (put_row l i x) i ≡ places_in l i = places_same (put_row l i x) l i place_below in
+        let e : places_in (put_place l i p n k) i ≡ places_in l i = places_same (put_place l i p n k) l i place_below in
         rw (add-one i, place_put, e)
+
+-- the same of a row that is a place
+module _ (l : List ℕ) (i : ℕ) (x : Place) where
+  abbrev its_place : Place
+  its_place = place_of (place_at x) (next_of x) (kind_of x)
+
+  pub length_placed : length (put_row l i x) ≡ length l
+  unfolding put_row
+  length_placed = length_row l i (place_at x) (next_of x) (kind_of x)
+
+  pub row_below_placed : (j : ℕ) → j < i → SameRow (put_row l i x) l j
+  unfolding put_row
+  row_below_placed = row_below l i (place_at x) (next_of x) (kind_of x)
+
+  pub place_below_placed : (j : ℕ) → j < i → place_in (put_row l i x) j ≡ place_in l j
+  unfolding put_row
+  place_below_placed = place_below l i (place_at x) (next_of x) (kind_of x)
+
+  module _ (h : 16 * i + 16 ≤ length l) (b : Narrow x) where
+    narrow_kind : kind_of x < 2 ^ 32
+    narrow_kind = omega (arith, kind_le x)
+
+    pub place_placed : place_in (put_row l i x) i ≡ x
+    unfolding put_row
+    place_placed = place_put l i (place_at x) (next_of x) (kind_of x) h b.address b.next narrow_kind ∙ place_numbers x
+
+    pub shows_placed : ShowsIn (put_row l i x) i
+    unfolding put_row
+    shows_placed = shows_put l i (place_at x) (next_of x) (kind_of x) h b.address b.next narrow_kind (shows_numbers x)
+
+    -- a table with one place more
+    pub places_placed : places_in (put_row l i x) (i + 1) ≡ places_in l i ++ (x ∷ [])
+    unfolding put_row
+    places_placed =
+        places_put l i (place_at x) (next_of x) (kind_of x) h b.address b.next narrow_kind ∙ rw (place_numbers x)

@@ -28,7 +28,13 @@ pub record Indexed (bytes : List ℕ) (n : ℕ) (heads links : List ℕ) : Type 
   pub shows : (i : ℕ) → i < n → ShowsIn bytes i
   pub apart : (i j : ℕ) → i < j → j < n → same_place (place_in bytes i) (place_in bytes j) ≡ false
 
--- n places of a table that has room for so many, all of which can be numbered, with the index that fits them
+-- n places that lie in the bytes and can all be numbered, with the index that fits them
+pub record Tabled (bytes : List ℕ) (n : ℕ) (heads links : List ℕ) : Type 0 where
+  pub fits : 16 * n ≤ length bytes
+  pub few : n ≤ 8192
+  pub index : Indexed bytes n heads links
+
+-- the same of a table that has room for more
 pub record Ready (room : ℕ) (bytes : List ℕ) (n : ℕ) (heads links : List ℕ) : Type 0 where
   pub within : n ≤ room
   pub fits : 16 * room ≤ length bytes

@@ -15,7 +15,7 @@ pub struct Index {
 
 #[inline(always)]
 #[tactic(auto, unfolding(crate::specs::Index::hash))]
-fn hash(x: Place) -> usize
+pub(crate) fn hash(x: Place) -> usize
     ensures { result ≡ hash x }
 {
     ((address_of(x) / 4 % 65536 + next_of(x) / 4 % 65536 * 37) % 8192) as usize
@@ -25,7 +25,7 @@ fn hash(x: Place) -> usize
 // 34 KiB (include/pijorrel.h).
 #[inline(always)]
 #[tactic(auto, unfolding(crate::specs::Index::link_of))]
-fn linked(n: u16) -> Option<usize>
+pub(crate) fn linked(n: u16) -> Option<usize>
     ensures { link_of result ≡ n }
 {
     match n {
@@ -47,23 +47,6 @@ impl Index {
             heads: [0; 8192],
             links: [0; 8192],
         }
-    }
-
-    // The newest place with the hash of a place.
-    #[inline(always)]
-    pub(crate) fn newest(&self, x: Place) -> Option<usize>
-        ensures { link_of result ≡ get_or self.now.heads (hash x) 0 }
-    {
-        linked(self.heads[hash(x)])
-    }
-
-    // The place before place i with its hash.
-    #[inline(always)]
-    pub(crate) fn older(&self, i: usize) -> Option<usize>
-        requires { i < 8192 }
-        ensures { link_of result ≡ get_or self.now.links i 0 }
-    {
-        linked(self.links[i])
     }
 
     // The place that comes next goes to the front of its chain.

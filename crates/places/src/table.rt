@@ -1,11 +1,11 @@
 // The place table: four numbers a row, big-endian, in bytes that the caller lends, with its index.
-ghost use Rattle.places.specs.Index.{Ready};
+ghost use Rattle.places.specs.Index.{Ready, Tabled};
 ghost use Rattle.std.specs.Prelude.{◌≡◌, ◌+◌, ◌*◌, ◌≤◌, length, eqb};
 ghost use Rattle.numbers.specs.Number.{number_at};
 ghost use Rattle.places.specs.Table.{Narrow, ShowsIn, place_in, put_place, put_row};
 ghost use Rattle.model.specs.Places.{place_at, next_of, kind_of, same_place};
 
-use crate::index::Index;
+use crate::index::{Index, hash, linked};
 use machine::SourcePc;
 use model::Place;
 
@@ -102,6 +102,63 @@ fn write_row(places: &mut [u8], i: usize, x: Place)
     write_place(places, i, address_of(x), next_of(x), kind_of(x));
 }
 
+// A place table that is only read: so many rows, and the index of their places.
+#[derive(Clone, Copy)]
+pub struct Rows<'a> {
+    pub places: &'a [u8],
+    pub heads: &'a [u16; 8192],
+    pub links: &'a [u16; 8192],
+    pub count: usize,
+    ghost tabled: { Tabled places.now count heads.now links.now },
+}
+
+impl Rows<'_> {
+    ghost use Rattle.std.specs.Prelude.{◌<◌, get_or};
+    ghost use Rattle.places.specs.Index.{hash, link_of};
+    ghost use Rattle.places.specs.Table.{places_in, found};
+
+    // The newest place with the hash of a place.
+    #[inline(always)]
+    fn newest(&self, x: Place) -> Option<usize>
+        ensures { link_of result ≡ get_or self.now.heads.now (hash x) 0 }
+    {
+        linked(self.heads[hash(x)])
+    }
+
+    // The place before place i with its hash.
+    #[inline(always)]
+    fn older(&self, i: usize) -> Option<usize>
+        requires { i < 8192 }
+        ensures { link_of result ≡ get_or self.now.links.now i 0 }
+    {
+        linked(self.links[i])
+    }
+
+    // The number of a place, if it is present. No two are the same, so the first met is it.
+    #[inline(always)]
+    pub fn find(&self, x: Place) -> Option<usize>
+        ensures { result ≡ found x (places_in self.now.places.now self.now.count) }
+    {
+        let mut next = self.newest(x);
+        while let Some(i) = next {
+            if is_place(self.places, i, x) {
+                return Some(i);
+            }
+            next = self.older(i);
+        }
+        None
+    }
+
+    // The first record of row i.
+    #[inline(always)]
+    pub fn first_record(&self, i: usize) -> u32
+        requires { i < self.now.count }
+        ensures { result ≡ number_at self.now.places.now (16 * i + 12) }
+    {
+        numbers::read_number(self.places, 16 * i + 12)
+    }
+}
+
 // A place table with room for so many places.
 #[derive(Drop)]
 pub struct Table<'a> {
@@ -151,27 +208,27 @@ impl Table<'_> {
         is_held(self.places, i)
     }
 
+    // The table as it is read.
     #[inline(always)]
-    pub fn first_record(&self, i: usize) -> u32
-        requires { i < self.now.index.now.count }
-        ensures { result ≡ number_at self.now.places.now (16 * i + 12) }
+    pub fn rows(&self) -> Rows<'_>
+        ensures places { result.places.now ≡ self.now.places.now }
+        ensures count { result.count ≡ self.now.index.now.count }
     {
-        numbers::read_number(self.places, 16 * i + 12)
+        Rows {
+            places: self.places,
+            heads: &self.index.heads,
+            links: &self.index.links,
+            count: self.len(),
+        }
     }
 
-    // The number of a place, if it is present. No two are the same, so the first met is it.
+    // The number of a place, if it is present.
     #[inline(always)]
+    #[tactic(auto, unfolding(crate::specs::Lent::listed))]
     pub fn find(&self, x: Place) -> Option<usize>
         ensures { result ≡ found x (listed self.now) }
     {
-        let mut next = self.index.newest(x);
-        while let Some(i) = next {
-            if is_place(self.places, i, x) {
-                return Some(i);
-            }
-            next = self.index.older(i);
-        }
-        None
+        self.rows().find(x)
     }
 
     // A place that is not present takes the next number.

@@ -90,7 +90,7 @@ fn finish(image: Image<'_>, table: &mut Table<'_>, records: &mut [u8]) -> Answer
     if records.len() / 12 < total {
         return Err(Refusal::RecordsShort(total as u32));
     }
-    groups::records::put_groups(image, table, total, records);
+    groups::records::put_groups(image, table.rows(), total, records);
     Ok(Counts {
         places: count as u32,
         records: total as u32,

@@ -33,7 +33,7 @@ pub put_groups-requires : goal.put_groups-requires
 unfolding listed
 put_groups-requires c =
     let d = rw c.len-count.ensures at c.lay_out-total.ensures.0 in
-    (d.all ∙ rw d.kept, omega arith)
+    (d.all ∙ rw (c.rows.ensures.places, c.rows.ensures.count, d.kept), omega arith)
 
 pub overflow_cast-result-3 : goal.overflow_cast-result-3
 unfolding listed
@@ -46,7 +46,8 @@ pub returns : goal.returns
 unfolding listed
 returns c =
     let d = rw c.len-count.ensures at c.lay_out-total.ensures.0 in
+    let p = rw (c.rows.ensures.places, c.rows.ensures.count) at c.put_groups.ensures in
     record {
-      handed = rw c.len-count.ensures (finish_whole _ _ _ _ (omega arith) (omega arith) _ _ _ _ _ d c.if-records-total.false c.put_groups.ensures);
+      handed = rw c.len-count.ensures (finish_whole _ _ _ _ (omega arith) (omega arith) _ _ _ _ _ d c.if-records-total.false p);
       kept = record { bytes = refl; size = omega arith; room = refl };
     }

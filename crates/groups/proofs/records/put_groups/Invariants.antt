@@ -11,8 +11,8 @@ use Rattle.groups.proofs.records.put_groups.Given as goal
 abbrev pub invariant-loop-i : goal.invariant-loop-i
 invariant-loop-i l =
     let lay = in_full l.image.bytes.now l.image.base in
-    let bytes = l.fn.table.places.now in
-    let count = l.fn.table.index.now.count in
+    let bytes = l.fn.rows.places.now in
+    let count = l.fn.rows.count in
     record {
       lent : l.records.bytes.ghost_name ≡ l.initial.records.bytes.ghost_name;
       size : length l.records.bytes.now ≡ length l.initial.records.bytes.now;

@@ -1,4 +1,4 @@
-use Rattle.places.proofs.Rows.{places_put}
+use Rattle.places.proofs.Rows.{places_placed}
 use Rattle.places.proofs.Chains.{ready_put}
 use Rattle.places.specs.Lent.{listed}
 use native.Mathlib.Omega.{arith}
@@ -10,4 +10,4 @@ invariant_of-self c = record { ready = rw (c.write_row.ensures.put, c.len-i.ensu
 
 pub returns-clause-places : goal.returns-clause-places
 unfolding listed
-returns-clause-places c = rw (c.write_row.ensures.put, c.len-i.ensures, c.enter.ensures.count) (places_put _ _ _ (omega arith) c.write_row.ensures.narrow)
+returns-clause-places c = rw (c.write_row.ensures.put, c.len-i.ensures, c.enter.ensures.count) (places_placed _ _ _ (omega arith) c.write_row.ensures.narrow)

@@ -1,6 +1,6 @@
 use Rattle.places.proofs.Chains.{hash_lt}
 use native.Mathlib.Omega.{arith}
-use Rattle.places.proofs.index.Index.newest.Goals as goal
+use Rattle.places.proofs.table.Rows.newest.Goals as goal
 
 pub offset_bounds-self-hash : goal.offset_bounds-self-hash
 offset_bounds-self-hash c = omega (arith, hash_lt c.args.x)

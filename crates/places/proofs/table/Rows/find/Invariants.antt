@@ -1,9 +1,9 @@
 use Rattle.places.specs.Index.{link_of}
 use Rattle.places.proofs.Chains.{Seeking}
-use Rattle.places.proofs.table.Table.find.Given as goal
+use Rattle.places.proofs.table.Rows.find.Given as goal
 
 abbrev pub invariant-loop-next : goal.invariant-loop-next
-invariant-loop-next l = Seeking l.x l.self.places.now l.self.index.now.count (link_of l.next)
+invariant-loop-next l = Seeking l.x l.self.places.now l.self.count (link_of l.next)
 
 abbrev pub decreases-loop-next : goal.decreases-loop-next
 decreases-loop-next l = link_of l.next
